@@ -2,10 +2,10 @@
 //!
 //!     rustc -O bench/engines.rs && ./engines locking|validating|multiversion turns|ballots|dumps|staggered|held OPERATIONS TRANSACTIONS KEYS SPAN TOGETHER
 //!
-//! It prints what `co_engine_rows` prints of a load; the digest covers every reply, row, blocker and pair.
+//! It prints what `co_engine_rows` prints of a load; the digest covers every reply, row and blocker.
 
-use std::cmp::{max, min};
-use std::collections::{BTreeMap, BTreeSet, HashMap, HashSet};
+use std::cmp::min;
+use std::collections::{BTreeMap, BTreeSet, HashMap};
 use std::ops::Bound::{Excluded, Unbounded};
 
 type Key = Vec<u8>;
@@ -33,20 +33,13 @@ enum Command {
 }
 
 enum Played {
-    Got(Option<Value>, Vec<Pair>),
-    Rows(Vec<(Key, Value)>, Vec<Pair>),
-    Written(Vec<Pair>),
+    Got(Option<Value>),
+    Rows(Vec<(Key, Value)>),
+    Written,
     Blocked(Txn),
     Done,
     Stale(Option<Key>),
     Dumped(Vec<(Key, Value)>, Vec<(Key, Option<Value>)>),
-}
-
-#[derive(Clone, Copy, PartialEq, Eq, Hash)]
-struct Pair {
-    writes: bool,
-    first: Txn,
-    second: Txn,
 }
 
 #[derive(Default)]
@@ -58,7 +51,6 @@ struct Undecided {
     writes: BTreeMap<Key, Option<Value>>,
     /// What stood in the store before a write in place.
     undos: BTreeMap<Key, Option<Value>>,
-    told: Vec<Pair>,
 }
 
 struct Engine {
@@ -70,7 +62,6 @@ struct Engine {
     writers: BTreeMap<Key, Vec<Txn>>,
     readers: HashMap<Key, Vec<Txn>>,
     wide: BTreeSet<(Key, Key, Txn)>,
-    told: HashSet<Pair>,
     snapshots: BTreeMap<u64, usize>,
     /// The last install of each key that was written.
     lasts: BTreeMap<Key, u64>,
@@ -95,7 +86,6 @@ impl Engine {
             writers: BTreeMap::new(),
             readers: HashMap::new(),
             wide: BTreeSet::new(),
-            told: HashSet::new(),
             snapshots: BTreeMap::new(),
             lasts: BTreeMap::new(),
         }
@@ -140,20 +130,14 @@ impl Engine {
         one.chain(wide.filter(move |(_, hi, _)| key <= hi).map(|(_, _, u)| *u))
     }
 
-    fn tell(&mut self, pair: Pair, pairs: &mut Vec<Pair>) {
-        if self.told.insert(pair) {
-            pairs.push(pair);
-            for t in [pair.first, pair.second] {
-                self.undecided.get_mut(&t).unwrap().told.push(pair);
-            }
-        }
-    }
-
-    /// Notes a read of a range, and tells the new pairs with those that wrote in it.
-    fn note_read(&mut self, t: Txn, lo: &Key, hi: &Key) -> Vec<Pair> {
+    /// Notes a read of a range; only locks ask who read what.
+    fn note_read(&mut self, t: Txn, lo: &Key, hi: &Key) {
         let installs = self.installs;
         let own = self.undecided.get_mut(&t).unwrap();
         own.reads.push((lo.clone(), hi.clone(), installs));
+        if self.kind != Kind::Lock {
+            return;
+        }
         if lo == hi {
             let by = self.readers.entry(lo.clone()).or_default();
             if !by.contains(&t) {
@@ -162,42 +146,21 @@ impl Engine {
         } else {
             self.wide.insert((lo.clone(), hi.clone(), t));
         }
-        let others: Vec<Txn> = if lo == hi {
-            self.writers.get(lo).into_iter().flatten().copied().filter(|u| *u != t).collect()
-        } else {
-            let written = self.writers.range(lo.clone()..=hi.clone());
-            written.flat_map(|(_, by)| by).copied().filter(|u| *u != t).collect()
-        };
-        let mut pairs = Vec::new();
-        for u in others {
-            let pair = Pair { writes: false, first: t, second: u };
-            self.tell(pair, &mut pairs);
-        }
-        pairs
     }
 
-    /// Notes a write, and tells the new pairs with those that read or wrote the key.
-    fn note_write(&mut self, t: Txn, key: &Key, value: &Value) -> Vec<Pair> {
-        let before = (self.kind == Kind::Lock).then(|| self.store.insert(key.clone(), value.clone()));
+    /// Notes a write; only locks ask who wrote what.
+    fn note_write(&mut self, t: Txn, key: &Key, value: &Value) {
         let own = self.undecided.get_mut(&t).unwrap();
-        if let Some(before) = before {
-            own.undos.entry(key.clone()).or_insert(before);
-        }
         own.writes.insert(key.clone(), Some(value.clone()));
-        let readers: Vec<Txn> = self.all_readers(key).filter(|u| *u != t).collect();
+        if self.kind != Kind::Lock {
+            return;
+        }
+        let before = self.store.insert(key.clone(), value.clone());
+        own.undos.entry(key.clone()).or_insert(before);
         let by = self.writers.entry(key.clone()).or_default();
-        let writers: Vec<Txn> = by.iter().copied().filter(|u| *u != t).collect();
         if !by.contains(&t) {
             by.push(t);
         }
-        let mut pairs = Vec::new();
-        for u in readers {
-            self.tell(Pair { writes: false, first: u, second: t }, &mut pairs);
-        }
-        for u in writers {
-            self.tell(Pair { writes: true, first: min(t, u), second: max(t, u) }, &mut pairs);
-        }
-        pairs
     }
 
     /// The version of a chain that a snapshot sees.
@@ -217,7 +180,8 @@ impl Engine {
             None if self.kind == Kind::Mv => self.chains.get(&key).and_then(|it| Engine::version(it, own.snapshot)).cloned(),
             None => self.store.get(&key).cloned(),
         };
-        Played::Got(got, self.note_read(t, &key, &key))
+        self.note_read(t, &key, &key);
+        Played::Got(got)
     }
 
     fn scan(&mut self, t: Txn, lo: Key, hi: Key) -> Played {
@@ -242,15 +206,17 @@ impl Engine {
                 }
             }
         }
-        Played::Rows(rows, self.note_read(t, &lo, &hi))
+        self.note_read(t, &lo, &hi);
+        Played::Rows(rows)
     }
 
     fn write(&mut self, t: Txn, key: Key, value: Value) -> Played {
         self.begin(t);
-        match self.write_blocker(t, &key) {
-            Some(u) => Played::Blocked(u),
-            None => Played::Written(self.note_write(t, &key, &value)),
+        if let Some(u) = self.write_blocker(t, &key) {
+            return Played::Blocked(u);
         }
+        self.note_write(t, &key, &value);
+        Played::Written
     }
 
     fn cast(&mut self, t: Txn) -> Played {
@@ -277,9 +243,6 @@ impl Engine {
                     self.writers.remove(key);
                 }
             }
-        }
-        for pair in &own.told {
-            self.told.remove(pair);
         }
         if self.kind == Kind::Mv {
             let count = self.snapshots.get_mut(&own.snapshot).unwrap();
@@ -469,13 +432,13 @@ fn rows_told(rows: &[(Key, Value)]) -> String {
     rows.iter().fold("rows".to_string(), |told, (key, value)| told + " " + text(key) + " " + text(value))
 }
 
-/// What a command came to, but for the pairs.
+/// What a command came to.
 fn told(played: &Played) -> String {
     match played {
-        Played::Got(Some(value), _) => format!("got {}", text(value)),
-        Played::Got(None, _) => "missing".into(),
-        Played::Rows(rows, _) => rows_told(rows),
-        Played::Written(_) => "written".into(),
+        Played::Got(Some(value)) => format!("got {}", text(value)),
+        Played::Got(None) => "missing".into(),
+        Played::Rows(rows) => rows_told(rows),
+        Played::Written => "written".into(),
         Played::Blocked(t) => format!("blocked {t}"),
         Played::Done => "done".into(),
         Played::Stale(Some(key)) => format!("stale {}", text(key)),
@@ -484,19 +447,6 @@ fn told(played: &Played) -> String {
             told + " " + text(key) + " " + &value.as_ref().map_or("missing".into(), |it| format!("got {}", text(it)))
         }),
     }
-}
-
-/// The pairs that are new, where a command is a call.
-fn pairs(played: &Played) -> Option<&[Pair]> {
-    match played {
-        Played::Got(_, pairs) | Played::Rows(_, pairs) | Played::Written(pairs) => Some(pairs),
-        Played::Blocked(_) | Played::Done => Some(&[]),
-        Played::Stale(_) | Played::Dumped(..) => None,
-    }
-}
-
-fn pair_told(pair: &Pair) -> String {
-    format!(", {} {} {}", if pair.writes { "writes" } else { "reads" }, pair.first, pair.second)
 }
 
 #[inline(never)]
@@ -517,14 +467,6 @@ fn main() {
     let commands = commands(&words[1], numbers);
     let rows = (0..numbers[2]).map(|it| (key(it), value(0))).collect();
     let all = played(kind, rows, commands);
-    let (mut many, mut hash) = (0, NOTHING);
-    for it in &all {
-        hash = digest(told(it).as_bytes(), hash);
-        if let Some(made) = pairs(it) {
-            many += made.len();
-            let each = made.iter().map(|it| digest(pair_told(it).as_bytes(), NOTHING));
-            hash = digest(&each.fold(0u64, u64::wrapping_add).to_be_bytes(), hash);
-        }
-    }
-    println!("steps {} pairs {many} digest {hash}", all.len());
+    let hash = all.iter().fold(NOTHING, |hash, it| digest(told(it).as_bytes(), hash));
+    println!("steps {} digest {hash}", all.len());
 }

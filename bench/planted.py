@@ -133,6 +133,7 @@ sys.exit(done.returncode)
 
 ORDER_CHECKS = [
     (["orders.py", "--random", "200", "--cases", "20", "{}"], [TURNS_THE_EDGES, TAKES_THE_GREATEST_PAIR, LEAVES_A_CASE_OUT, TAKES_THE_RECORDED_ORDER]),
+    (["orders_scans.py", "--random", "150", "--scans", "300", "{}"], [TURNS_THE_EDGES, TAKES_THE_GREATEST_PAIR, TAKES_THE_RECORDED_ORDER]),
 ]
 CHECKS = [
     (["schedules.py", "{}", "8000", "7"], [ENDS_EARLY, DOES_NOTHING, TELLS_ANOTHER_COMMIT, LOSES_A_RECORD]),

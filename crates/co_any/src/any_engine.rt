@@ -6,7 +6,7 @@ use co_engine::{Dump, Engine, Seen};
 use co_lock::LockEngine;
 use co_mv::MvEngine;
 use co_occ::OccEngine;
-use co_pairs::{Pairs, Prepared, Sets};
+use co_pairs::{Prepared, Sets};
 use std::alloc::{AllocError, Global};
 
 /// An engine of one of the three kinds. It is restored with every kind, and each call goes to the engine of
@@ -39,31 +39,19 @@ impl Engine for AnyEngine {
         }
     }
 
-    fn read(
-        &mut self,
-        alloc: Global,
-        t: Txn,
-        key: &Key,
-        pairs: &mut Pairs,
-    ) -> Result<Seen, AllocError> {
+    fn read(&mut self, alloc: Global, t: Txn, key: &Key) -> Result<Seen, AllocError> {
         match self {
-            AnyEngine::Lock(engine) => engine.read(alloc, t, key, pairs),
-            AnyEngine::Occ(engine) => engine.read(alloc, t, key, pairs),
-            AnyEngine::Mv(engine) => engine.read(alloc, t, key, pairs),
+            AnyEngine::Lock(engine) => engine.read(alloc, t, key),
+            AnyEngine::Occ(engine) => engine.read(alloc, t, key),
+            AnyEngine::Mv(engine) => engine.read(alloc, t, key),
         }
     }
 
-    fn scan(
-        &mut self,
-        alloc: Global,
-        t: Txn,
-        range: &Range,
-        pairs: &mut Pairs,
-    ) -> Result<Seen, AllocError> {
+    fn scan(&mut self, alloc: Global, t: Txn, range: &Range) -> Result<Seen, AllocError> {
         match self {
-            AnyEngine::Lock(engine) => engine.scan(alloc, t, range, pairs),
-            AnyEngine::Occ(engine) => engine.scan(alloc, t, range, pairs),
-            AnyEngine::Mv(engine) => engine.scan(alloc, t, range, pairs),
+            AnyEngine::Lock(engine) => engine.scan(alloc, t, range),
+            AnyEngine::Occ(engine) => engine.scan(alloc, t, range),
+            AnyEngine::Mv(engine) => engine.scan(alloc, t, range),
         }
     }
 
@@ -73,12 +61,11 @@ impl Engine for AnyEngine {
         t: Txn,
         key: &Key,
         value: Option<&Value>,
-        pairs: &mut Pairs,
     ) -> Result<Seen, AllocError> {
         match self {
-            AnyEngine::Lock(engine) => engine.write(alloc, t, key, value, pairs),
-            AnyEngine::Occ(engine) => engine.write(alloc, t, key, value, pairs),
-            AnyEngine::Mv(engine) => engine.write(alloc, t, key, value, pairs),
+            AnyEngine::Lock(engine) => engine.write(alloc, t, key, value),
+            AnyEngine::Occ(engine) => engine.write(alloc, t, key, value),
+            AnyEngine::Mv(engine) => engine.write(alloc, t, key, value),
         }
     }
 

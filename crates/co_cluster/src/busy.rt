@@ -19,7 +19,7 @@ impl<E: Engine + Drop> Cluster<E> {
         ensures { (s : Federation) → RepresentsCluster E.takes E.stands_for self.now s → result ≡ busy_at (s.member member) t }
     {
         let node = self.member_at(member);
-        node.coord_of(t).is_some() || node.ballot_of(t).is_some()
+        node.coord_of(t).is_some() || node.is_asked(t)
     }
 
     /// Whether the coordinator collects votes, or has committed.

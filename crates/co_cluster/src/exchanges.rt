@@ -89,7 +89,7 @@ impl<E: Engine + Drop> Cluster<E> {
     {
         let node = self.member_at(member);
         match node.knows(t) {
-            Phase::Active => node.ballot_of(t).is_none(),
+            Phase::Active => !node.is_asked(t),
             Phase::Voted | Phase::Absent => true,
             Phase::Installed => false,
         }

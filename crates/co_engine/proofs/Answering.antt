@@ -6,7 +6,6 @@ use Rattle.co_base.specs.declared.op.Op.{Op}
 use Rattle.co_serial.specs.Records.{Records}
 use Rattle.co_state.specs.declared.engine_state.EngineState.{EngineState}
 use Rattle.co_state.specs.declared.engine_state.Install.{Install}
-use Rattle.co_state.specs.Conflicts.{AreNewPairs, has_pair}
 use Rattle.co_state.specs.Effects.{with_operation}
 use Rattle.co_state.specs.EngineState.{records_at, records_now}
 use Rattle.co_state.specs.LockRule.{lock_blocker}
@@ -27,13 +26,6 @@ pub not_voted : (b : EngineState) (t : ℕ) → IsTrue (may_operate b t) → loo
 not_voted b t h = none_held (look b.voted t) (not (is_installed b.installed t)) h
 
 -- ---- blocked operations
-not_both : (b : Bool) → false ≡ (b && not b)
-not_both true = refl
-not_both false = refl
-
-pub nothing_new : (b : EngineState) → AreNewPairs b b []
-nothing_new b = record { exactly = λ p. not_both (has_pair b p); once = tt }
-
 pub seen_alike : (b : EngineState) (t : ℕ) (op : Op) (o : Option ℕ) → o ≡ lock_blocker b t op → seen_by o (operation_reply b t op) ≡ seen_of b t op
 seen_alike b t op o e = ap (λ x. seen_by x (operation_reply b t op)) e
 

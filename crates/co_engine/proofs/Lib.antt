@@ -3,4 +3,5 @@ mod Playing
 pub mod Answering
 pub mod Joining
 pub mod Keeping
+pub mod Mapped
 pub mod Rolling

@@ -13,8 +13,7 @@ use Rattle.co_state.specs.Table.{Table, look, put, without, holds}
 use Rattle.co_state.proofs.Tables.{look-put, look-without, put-without}
 use Rattle.co_engine.proofs.Answering.{cond-same}
 use Rattle.co_engine.specs.declared.undecided.Undecided.{Undecided}
-use Rattle.co_engine.specs.Undecided.{active_with, voted_with, or_new, own, with_vote, vote_in, IsKept, active_sets, voted_sets}
-use Rattle.co_pairs.specs.NewPairs.{grown_by}
+use Rattle.co_engine.specs.Undecided.{grown_by, active_with, voted_with, or_new, own, with_vote, vote_in, IsKept, active_sets, voted_sets}
 use Rattle.co_pairs.proofs.Picking.{tied}
 
 pub kept_along : {o o' : Option Undecided} {os os' : Option (List Operation)} {vote vote' : Option Vote} → o ≡ o' → os ≡ os' → vote ≡ vote' → IsKept o os vote → IsKept o' os' vote'

@@ -1,5 +1,5 @@
 -- What the calls of an engine ask for and what they answer, by the state that the engine stands for.
-use Rattle.std.specs.Prelude.{ℕ, Bool, ◌≡◌, false, ◌||◌, ◌&&◌, not, ◌==◌, List, [], ◌∷◌, ◌++◌, Option, None, Some}
+use Rattle.std.specs.Prelude.{ℕ, Bool, false, ◌||◌, ◌&&◌, not, ◌==◌, List, [], ◌∷◌, Option, None, Some}
 use Rattle.co_base.specs.declared.op.Op.{Op}
 use Rattle.co_base.specs.declared.op.Op.TheVariants.{Write, Erase}
 use Rattle.co_base.specs.declared.reply.Reply.{Reply}
@@ -8,8 +8,6 @@ use Rattle.co_engine.specs.declared.answers.Seen.TheVariants.{Answer, Blocked}
 pub use Rattle.co_pairs.specs.Votes.{vote_in, votes_of}
 use Rattle.co_state.specs.declared.engine_state.EngineState.{EngineState}
 use Rattle.co_state.specs.declared.engine_state.Install.{Install}
-use Rattle.co_state.specs.declared.pair.Pair.{Pair}
-use Rattle.co_state.specs.Conflicts.{AreNewPairs}
 use Rattle.co_state.specs.LockRule.{lock_blocker}
 use Rattle.co_state.specs.ReadRule.{operation_reply}
 use Rattle.co_state.specs.Table.{holds}
@@ -34,14 +32,3 @@ seen_of b t op = seen_by (lock_blocker b t op) (operation_reply b t op)
 abbrev pub writing : List ℕ → Option (List ℕ) → Op
 writing key None = Erase key
 writing key (Some value) = Write key value
-
--- a list begins with what it held
-pub record Appends (before after : List Pair) : Type 0 where
-  pub added : List Pair
-  pub appended : after ≡ before ++ added
-
--- and what was added are the pairs that are new
-pub record AppendsNewPairs (old new : EngineState) (before after : List Pair) : Type 0 where
-  pub added : List Pair
-  pub appended : after ≡ before ++ added
-  pub exactly_new : AreNewPairs old new added

@@ -8,7 +8,6 @@ use Rattle.co_engine.specs.declared.command.Command.TheVariants.{Read, Scan, Wri
 use Rattle.co_engine.specs.declared.command.Played.{Played}
 use Rattle.co_engine.specs.declared.command.Played.TheVariants as played
 use Rattle.co_state.specs.declared.engine_state.EngineState.{EngineState}
-use Rattle.co_state.specs.Conflicts.{AreNewPairs}
 use Rattle.co_state.specs.Effects.{after_operation, after_cast, after_install, after_drop}
 use Rattle.co_state.specs.EngineState.{is_undecided}
 use Rattle.co_state.specs.Table.{holds}
@@ -39,9 +38,9 @@ abbrev pub after_commands : EngineState → List Command → EngineState
 after_commands b [] = b
 after_commands b (c ∷ cs) = after_commands (after_command b c) cs
 
--- an operation comes to what the state says, with exactly the pairs that are new
+-- an operation comes to what the state says
 abbrev pub IsSeen : EngineState → ℕ → Op → Played → Type 0
-IsSeen b t o (played.Seen seen pairs) = (seen ≡ seen_of b t o) × AreNewPairs b (after_operation b t o) pairs
+IsSeen b t o (played.Seen seen) = seen ≡ seen_of b t o
 IsSeen b t o played.Done = ⊥
 IsSeen b t o played.Refused = ⊥
 

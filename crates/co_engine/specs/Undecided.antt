@@ -1,15 +1,29 @@
 -- The undecided transactions of an engine, as the roll that it keeps of them.
 use Rattle.std.specs.Prelude.{ℕ, ◌≡◌, true, false, not, List, map, filter, if◌then◌else◌, Option, None, Some}
 use Rattle.std.specs.Option.{option_map}
+use Rattle.co_base.specs.declared.op.Op.{Op}
 use Rattle.co_base.specs.declared.written.Written.{Written}
 use Rattle.co_engine.specs.declared.undecided.Undecided.{Undecided}
 use Rattle.co_state.specs.declared.engine_state.Operation.{Operation}
 use Rattle.co_state.specs.declared.engine_state.Sets.{Sets}
 use Rattle.co_state.specs.declared.engine_state.Vote.{Vote}
-use Rattle.co_state.specs.Changes.{sets_of, no_sets}
+use Rattle.co_state.specs.Changes.{sets_of, no_sets, span_read, change_made, with_span, with_written}
 use Rattle.co_state.specs.Effects.{joined}
 use Rattle.co_state.specs.Joined.{joined_all}
-use Rattle.co_state.specs.Table.{Table, look, put}
+use Rattle.co_state.specs.Table.{Table, look, put, without}
+
+-- what a transaction read and wrote, with one operation more
+abbrev pub grown_by : Op → Sets → Sets
+grown_by op sets = record { reads = with_span (span_read op) sets.reads; writes = with_written (change_made op) sets.writes }
+
+-- a transaction that is absent did nothing yet
+abbrev pub or_nothing : Option Sets → Sets
+or_nothing None = no_sets
+or_nothing (Some sets) = sets
+
+-- a transaction of a table does an operation
+abbrev pub grown_at : Table Sets → ℕ → Op → Table Sets
+grown_at all t op = put (without all t) t (grown_by op (or_nothing (look all t)))
 
 -- a transaction of the roll votes
 abbrev pub vote_in : Table Undecided → ℕ → Option Undecided → Table Undecided

@@ -1,7 +1,6 @@
 //! Calls of an engine as data.
 use crate::answers::Seen;
 use co_base::{Key, Range, Sequence, Txn, Value};
-use co_pairs::Pairs;
 
 /// A call of an engine.
 #[derive(Drop)]
@@ -40,8 +39,8 @@ pub enum Command {
 /// What a command comes to.
 #[derive(Drop)]
 pub enum Played {
-    /// What an operation came to, with the pairs that are new.
-    Seen(Seen, Pairs),
+    /// What an operation came to.
+    Seen(Seen),
     /// The call was made.
     Done,
     /// The condition of the call is not met, and nothing is changed.

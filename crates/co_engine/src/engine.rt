@@ -1,7 +1,7 @@
 //! The contract of all engines.
 use crate::answers::{Dump, Seen};
 use co_base::{Key, Kind, Range, Rows, Txn, Value};
-use co_pairs::{Pairs, Prepared, Sets};
+use co_pairs::{Prepared, Sets};
 use std::alloc::{AllocError, Global};
 
 /// An engine keeps the records of one member and what its undecided transactions did.
@@ -10,17 +10,16 @@ use std::alloc::{AllocError, Global};
 /// the call may be made; where it may not be made, a call is safe and promises nothing. After want of
 /// memory an engine is only dropped.
 pub trait Engine: Sized {
-    ghost use Rattle.std.specs.Prelude.{◌≡◌, ◌++◌, ℕ, List, IsTrue, IfOk, OnOk, OnErr, option_copied};
+    ghost use Rattle.std.specs.Prelude.{◌≡◌, ℕ, IsTrue, IfOk, OnOk, option_copied};
     ghost use Rattle.co_base.specs.declared.head.Kind.{Kind};
     ghost use Rattle.co_base.specs.declared.op.Op.TheVariants.{Read, Scan};
     ghost use Rattle.co_pairs.specs.Free.{are_free};
     ghost use Rattle.co_state.specs.declared.engine_state.EngineState.{EngineState};
-    ghost use Rattle.co_state.specs.declared.pair.Pair.{Pair};
     ghost use Rattle.co_state.specs.EngineState.{is_undecided, sets_at};
     ghost use Rattle.co_state.specs.Effects.{after_operation, after_cast, after_install, after_drop, restored, records_from, dumped_rows, dumped_undos};
     ghost use Rattle.co_state.specs.StaleRead.{stale_key};
     ghost use Rattle.co_state.specs.Table.{holds};
-    ghost use Rattle.co_engine.specs.Calls.{may_operate, seen_of, writing, votes_of, Appends, AppendsNewPairs};
+    ghost use Rattle.co_engine.specs.Calls.{may_operate, seen_of, writing, votes_of};
 
     /// Which kinds of engines this one can be.
     ghost takes: { Kind → Type 0 };
@@ -39,48 +38,27 @@ pub trait Engine: Sized {
         requires free { IsTrue (are_free voted.now) }
         ensures { IfOk result (λ engine. stands_for engine (restored kind (records_from rows) (votes_of voted.now))) };
 
-    /// Reads a record, by a transaction that has neither voted nor been installed. The pairs of that
-    /// transaction which are new are added.
-    fn read(
-        &mut self,
-        alloc: Global,
-        t: Txn,
-        key: &Key,
-        pairs: &mut Pairs,
-    ) -> Result<Seen, AllocError>
+    /// Reads a record, by a transaction that has neither voted nor been installed.
+    fn read(&mut self, alloc: Global, t: Txn, key: &Key) -> Result<Seen, AllocError>
         ensures seen { (b : EngineState) → stands_for self.old b → IsTrue (may_operate b t) → IfOk result (λ seen. seen ≡ seen_of b t (Read key.now)) }
-        ensures state { (b : EngineState) → stands_for self.old b → IsTrue (may_operate b t) → OnOk result (stands_for self.new (after_operation b t (Read key.now))) }
-        ensures pairs { (b : EngineState) → stands_for self.old b → IsTrue (may_operate b t) → OnOk result (AppendsNewPairs b (after_operation b t (Read key.now)) pairs.old pairs.new) }
-        ensures kept { OnErr result (Appends pairs.old pairs.new) };
+        ensures state { (b : EngineState) → stands_for self.old b → IsTrue (may_operate b t) → OnOk result (stands_for self.new (after_operation b t (Read key.now))) };
 
-    /// Reads the records of a range, by a transaction that has neither voted nor been installed. The
-    /// pairs of that transaction which are new are added.
-    fn scan(
-        &mut self,
-        alloc: Global,
-        t: Txn,
-        range: &Range,
-        pairs: &mut Pairs,
-    ) -> Result<Seen, AllocError>
+    /// Reads the records of a range, by a transaction that has neither voted nor been installed.
+    fn scan(&mut self, alloc: Global, t: Txn, range: &Range) -> Result<Seen, AllocError>
         ensures seen { (b : EngineState) → stands_for self.old b → IsTrue (may_operate b t) → IfOk result (λ seen. seen ≡ seen_of b t (Scan range.now)) }
-        ensures state { (b : EngineState) → stands_for self.old b → IsTrue (may_operate b t) → OnOk result (stands_for self.new (after_operation b t (Scan range.now))) }
-        ensures pairs { (b : EngineState) → stands_for self.old b → IsTrue (may_operate b t) → OnOk result (AppendsNewPairs b (after_operation b t (Scan range.now)) pairs.old pairs.new) }
-        ensures kept { OnErr result (Appends pairs.old pairs.new) };
+        ensures state { (b : EngineState) → stands_for self.old b → IsTrue (may_operate b t) → OnOk result (stands_for self.new (after_operation b t (Scan range.now))) };
 
     /// Writes a record, or takes it away where there is no value, by a transaction that has neither
-    /// voted nor been installed. The pairs of that transaction which are new are added.
+    /// voted nor been installed.
     fn write(
         &mut self,
         alloc: Global,
         t: Txn,
         key: &Key,
         value: Option<&Value>,
-        pairs: &mut Pairs,
     ) -> Result<Seen, AllocError>
         ensures seen { (b : EngineState) → stands_for self.old b → IsTrue (may_operate b t) → IfOk result (λ seen. seen ≡ seen_of b t (writing key.now (option_copied value.entry))) }
-        ensures state { (b : EngineState) → stands_for self.old b → IsTrue (may_operate b t) → OnOk result (stands_for self.new (after_operation b t (writing key.now (option_copied value.entry)))) }
-        ensures pairs { (b : EngineState) → stands_for self.old b → IsTrue (may_operate b t) → OnOk result (AppendsNewPairs b (after_operation b t (writing key.now (option_copied value.entry))) pairs.old pairs.new) }
-        ensures kept { OnErr result (Appends pairs.old pairs.new) };
+        ensures state { (b : EngineState) → stands_for self.old b → IsTrue (may_operate b t) → OnOk result (stands_for self.new (after_operation b t (writing key.now (option_copied value.entry)))) };
 
     /// What an active or voted transaction read and wrote. Takes no memory.
     fn sets(&self, t: Txn) -> &Sets

@@ -2,7 +2,7 @@
 //!
 //! An engine stands for a state, by a relation of its own. Each call answers as that state does, and
 //! afterwards the engine stands for the state that the call leaves. What engines keep alike stands here too:
-//! a roll of the undecided transactions, and the dump of one that writes in place.
+//! what undecided transactions read and wrote, and the dump of an engine that writes in place.
 //!
 //! **What is proved.** The contract of all engines, by the engine state; `play` answers any list of calls as the state does, proved once over the trait.
 #![tactic(auto)]
@@ -13,8 +13,8 @@ mod dumping;
 mod engine;
 mod known;
 mod operations;
-mod pairs;
 mod player;
+mod sets;
 mod undecided;
 
 pub use answers::{Dump, Seen};
@@ -22,6 +22,6 @@ pub use command::{Answers, Command, Played};
 pub use dumping::dump_in_place;
 pub use engine::Engine;
 pub use operations::{copy_value, writing};
-pub use pairs::append;
 pub use player::play;
+pub use sets::{grow, grown, prepared_sets};
 pub use undecided::{Roll, Undecided};

@@ -14,7 +14,7 @@ use crate::command::{Answers, Command, Played};
 use crate::engine::Engine;
 use crate::known::Known;
 use co_base::{Key, Kind, Range, Rows, Txn, Value};
-use co_pairs::{Pairs, Prepared};
+use co_pairs::Prepared;
 use std::alloc::{AllocError, Global};
 
 /// Reads a record, unless the transaction has voted or has been installed.
@@ -30,10 +30,9 @@ fn serve_read<E: Engine>(
     if !known.operates(t) {
         return Ok(Played::Refused);
     }
-    let mut pairs = Pairs::new(alloc);
-    let seen = engine.read(alloc, t, key, &mut pairs)?;
+    let seen = engine.read(alloc, t, key)?;
     known.note(t, &seen)?;
-    Ok(Played::Seen(seen, pairs))
+    Ok(Played::Seen(seen))
 }
 
 /// Reads the records of a range, unless the transaction has voted or has been installed.
@@ -49,10 +48,9 @@ fn serve_scan<E: Engine>(
     if !known.operates(t) {
         return Ok(Played::Refused);
     }
-    let mut pairs = Pairs::new(alloc);
-    let seen = engine.scan(alloc, t, range, &mut pairs)?;
+    let seen = engine.scan(alloc, t, range)?;
     known.note(t, &seen)?;
-    Ok(Played::Seen(seen, pairs))
+    Ok(Played::Seen(seen))
 }
 
 /// Writes a record or takes it away, unless the transaction has voted or has been installed.
@@ -69,10 +67,9 @@ fn serve_write<E: Engine>(
     if !known.operates(t) {
         return Ok(Played::Refused);
     }
-    let mut pairs = Pairs::new(alloc);
-    let seen = engine.write(alloc, t, key, value.as_ref(), &mut pairs)?;
+    let seen = engine.write(alloc, t, key, value.as_ref())?;
     known.note(t, &seen)?;
-    Ok(Played::Seen(seen, pairs))
+    Ok(Played::Seen(seen))
 }
 
 /// Makes an active transaction a voted one.

@@ -9,7 +9,7 @@ use crate::setups::{is_setup, rows_of};
 use crate::texts::{put_dumped, put_key, put_number, put_seen};
 use co_base::{Key, Kind, Txn, Value};
 use co_engine::{Command, Engine, Seen};
-use co_pairs::{Pairs, Prepared, Sets};
+use co_pairs::{Prepared, Sets};
 use std::alloc::{AllocError, Global};
 
 /// Makes the call of a command. Gives what an operation came to.
@@ -17,14 +17,11 @@ pub(crate) fn call<E: Engine>(
     alloc: Global,
     engine: &mut E,
     command: &Command,
-    pairs: &mut Pairs,
 ) -> Result<Option<Seen>, AllocError> {
     let seen = match command {
-        Command::Read { txn, key } => engine.read(alloc, *txn, key, pairs)?,
-        Command::Scan { txn, range } => engine.scan(alloc, *txn, range, pairs)?,
-        Command::Write { txn, key, value } => {
-            engine.write(alloc, *txn, key, value.as_ref(), pairs)?
-        }
+        Command::Read { txn, key } => engine.read(alloc, *txn, key)?,
+        Command::Scan { txn, range } => engine.scan(alloc, *txn, range)?,
+        Command::Write { txn, key, value } => { engine.write(alloc, *txn, key, value.as_ref())? }
         Command::Cast(txn) => {
             engine.cast(*txn);
             return Ok(None);
@@ -48,9 +45,8 @@ fn put_called<E: Engine>(
     command: &Command,
     into: &mut Vec<u8>,
 ) -> Result<(), AllocError> {
-    let mut pairs = Pairs::new(alloc);
-    match call(alloc, engine, command, &mut pairs)? {
-        Some(seen) => put_seen(&seen, pairs.as_slice(), into),
+    match call(alloc, engine, command)? {
+        Some(seen) => put_seen(&seen, into),
         None => into.extend_from_slice(b"done"),
     }
 }
@@ -74,8 +70,7 @@ fn commits<E: Engine>(
     key: &Key,
     value: &Value,
 ) -> Result<bool, AllocError> {
-    let mut pairs = Pairs::new(alloc);
-    let seen = engine.write(alloc, t, key, Some(value), &mut pairs)?;
+    let seen = engine.write(alloc, t, key, Some(value))?;
     engine.cast(t);
     engine.install(alloc, t)?;
     Ok(matches!(seen, Seen::Answer(_)))

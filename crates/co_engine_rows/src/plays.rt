@@ -9,7 +9,7 @@ use crate::setups::{is_setup, rows_of};
 use crate::texts::put_all_played;
 use co_base::{Kind, Rows, Sequence};
 use co_engine::{Answers, Command, Engine, Played, play};
-use co_pairs::{Pairs, Prepared};
+use co_pairs::Prepared;
 use std::alloc::{AllocError, Global};
 
 /// The commands of the rows.
@@ -30,10 +30,9 @@ fn drive<E: Engine>(
     commands: &[Command],
     answers: &[Played],
 ) -> Result<(), AllocError> {
-    let mut pairs = Pairs::new(alloc);
     for (command, answer) in commands.iter().zip(answers) {
         if !matches!(answer, Played::Refused) {
-            let _ = call(alloc, engine, command, &mut pairs)?;
+            let _ = call(alloc, engine, command)?;
         }
     }
     Ok(())

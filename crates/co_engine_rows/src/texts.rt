@@ -1,7 +1,6 @@
-//! Answers as text: what a command came to, and behind it the pairs of transactions that are new.
+//! Answers as text.
 use co_base::{Key, Reply, Row, Value, Written};
 use co_engine::{Dump, Played, Seen};
-use co_pairs::{Pair, PairKind};
 use itoa::Buffer;
 use std::alloc::AllocError;
 
@@ -63,7 +62,7 @@ fn put_reply(reply: &Reply, into: &mut Vec<u8>) -> Result<(), AllocError> {
 }
 
 /// Appends an answer, or who is in the way.
-pub(crate) fn put_answer(seen: &Seen, into: &mut Vec<u8>) -> Result<(), AllocError> {
+pub(crate) fn put_seen(seen: &Seen, into: &mut Vec<u8>) -> Result<(), AllocError> {
     match seen {
         Seen::Answer(reply) => put_reply(reply, into),
         Seen::Blocked(t) => {
@@ -73,30 +72,10 @@ pub(crate) fn put_answer(seen: &Seen, into: &mut Vec<u8>) -> Result<(), AllocErr
     }
 }
 
-/// Appends how two transactions are in conflict, and their numbers.
-pub(crate) fn put_pair(pair: &Pair, into: &mut Vec<u8>) -> Result<(), AllocError> {
-    let by: &[u8] = match pair.by {
-        PairKind::Reads => b", reads",
-        PairKind::Writes => b", writes",
-    };
-    into.extend_from_slice(by)?;
-    put_number(u64::from(pair.first.0), into)?;
-    put_number(u64::from(pair.second.0), into)
-}
-
-/// Appends what an operation came to, and the pairs that are new.
-pub(crate) fn put_seen(seen: &Seen, pairs: &[Pair], into: &mut Vec<u8>) -> Result<(), AllocError> {
-    put_answer(seen, into)?;
-    for pair in pairs {
-        put_pair(pair, into)?;
-    }
-    Ok(())
-}
-
 /// Appends what a command came to.
 fn put_played(played: &Played, into: &mut Vec<u8>) -> Result<(), AllocError> {
     match played {
-        Played::Seen(seen, pairs) => put_seen(seen, pairs.as_slice(), into),
+        Played::Seen(seen) => put_seen(seen, into),
         Played::Done => into.extend_from_slice(b"done"),
         Played::Refused => into.extend_from_slice(b"refused"),
     }

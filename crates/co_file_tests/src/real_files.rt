@@ -198,14 +198,26 @@ fn a_file_of_two_spots_is_a_fault(rt: HostRuntime) {
     assert!(rt; done(fs::remove_dir_all(&rt, "two_spots")));
 }
 
+/// What the calls of a log write on it are answered, which makes it longer, behind a read of it.
+fn append_calls(alloc: Global, home: &mut HomeStd) -> [&'static str; 3] {
+    [
+        read(alloc, home, M1_A, 9, b"xy"),
+        answer(home.write_at(alloc, M1_A, 2, b"z")),
+        synced(home, M1_A),
+    ]
+}
+
+/// A read and a sync look the file up at its path, and a write does not.
+const READ_AND_SYNC_FAIL: [&str; 3] = ["failed", "done", "failed"];
+
 /// Whether a home that used a file fails once it is gone, also where there is a new one.
 fn fails_once_it_is_gone(rt: &HostRuntime, home: &mut HomeStd) -> bool {
     entered(rt.alloc(), home, "gone") == "done"
         && calls(rt.alloc(), home) == ["these", "done", "done", "done"]
         && done(fs::remove_file(rt, "gone/m1.a"))
-        && calls(rt.alloc(), home) == ALL_FAIL
-        && done(fs::write(rt, "gone/m1.a", "abc"))
-        && calls(rt.alloc(), home) == ALL_FAIL
+        && append_calls(rt.alloc(), home) == READ_AND_SYNC_FAIL
+        && done(fs::write(rt, "gone/m1.a", "xyz"))
+        && append_calls(rt.alloc(), home) == READ_AND_SYNC_FAIL
 }
 
 /// The same of a new home.

@@ -114,7 +114,7 @@ impl Folder {
     {
         self.attend(rt, spot, at == 0)?;
         match kept(&self.files, spot) {
-            Some(place) => write_at(rt, &mut self.files, place, &self.path, spot, at, piece),
+            Some(place) => write_at(&mut self.files, place, spot, at, piece),
             None => Err(ErrorKind::UnexpectedEof.into()),
         }
     }
@@ -128,7 +128,7 @@ impl Folder {
     {
         self.attend(rt, spot, false)?;
         match kept(&self.files, spot) {
-            Some(place) => cut_at(rt, &mut self.files, place, &self.path, spot, len),
+            Some(place) => cut_at(&mut self.files, place, spot, len),
             None if len == 0 => Ok(()),
             None => Err(ErrorKind::UnexpectedEof.into()),
         }

@@ -10,8 +10,8 @@ use std::io::{self, ErrorKind};
 ///
 /// `enter` makes the directory and its missing parents, syncs it and those above it on its device whatever existed before, and locks it against every other
 /// home until another one is entered or this home is dropped. A log file is opened at its first use and kept open: it is then synced before its first bytes are
-/// given, since an earlier process may have left it unsynced. Once a call on a file has failed, every later one on it fails. A file that is no plain file, that has gone or was replaced while it was open, or that is the file of another
-/// spot too, is a fault; so is a write that would leave a gap. Before a directory is entered every call fails.
+/// given, since an earlier process may have left it unsynced. Once a call on a file has failed, every later one on it fails. A file that is no plain file, or that is the file of another
+/// spot too, is a fault; so is one that has gone or was replaced while it was open, which is looked up before it is read and before a sync where its length has changed; and so is a write that would leave a gap. Before a directory is entered every call fails.
 #[derive(Drop)]
 pub struct HomeStd {
     rt: HostRuntime,

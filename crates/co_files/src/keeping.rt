@@ -37,10 +37,8 @@ pub(crate) fn read_at(
 
 /// Lays a piece into the file at a place.
 pub(crate) fn write_at(
-    rt: &HostRuntime,
     files: &mut [LogFile],
     place: usize,
-    path: &str,
     spot: Spot,
     at: u32,
     piece: &[u8],
@@ -49,23 +47,16 @@ pub(crate) fn write_at(
     ensures called { IsOneCall (λ _. Write at piece.now) (Write at piece.now) (calls_at files.old spot) (calls_at files.new spot) result }
     ensures others { (s : Spot) → s ≢ spot → calls_at files.new s ≡ calls_at files.old s }
 {
-    files[place].write(rt, path, at, piece)
+    files[place].write(at, piece)
 }
 
 /// Cuts the file at a place.
-pub(crate) fn cut_at(
-    rt: &HostRuntime,
-    files: &mut [LogFile],
-    place: usize,
-    path: &str,
-    spot: Spot,
-    len: u32,
-) -> io::Result<()>
+pub(crate) fn cut_at(files: &mut [LogFile], place: usize, spot: Spot, len: u32) -> io::Result<()>
     requires { Some place ≡ position (is_of spot) files.old }
     ensures called { IsOneCall (λ _. Cut len) (Cut len) (calls_at files.old spot) (calls_at files.new spot) result }
     ensures others { (s : Spot) → s ≢ spot → calls_at files.new s ≡ calls_at files.old s }
 {
-    files[place].cut(rt, path, len)
+    files[place].cut(len)
 }
 
 /// Makes the file at a place stable.

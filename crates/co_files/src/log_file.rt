@@ -12,11 +12,16 @@ use std::fs::OpenOptions;
 use std::io::{self, ErrorKind};
 
 /// A log file that is kept open. It is read, written, cut and synced by one descriptor, so that an error at write-back reaches the next sync.
+///
+/// Whether it still stands at its path, with the length that its own calls gave it, is looked up before it is read, and before a sync where its length
+/// has changed since the last look: once in the write of a log.
 #[derive(Drop)]
 pub(crate) struct LogFile {
     pub(crate) spot: Spot,
     pub(crate) file: Guarded,
     identity: Identity,
+    length: u64,
+    seen: u64,
     ghost used: { is_used file ≡ true },
 }
 
@@ -56,13 +61,15 @@ impl LogFile {
         ensures spot { IfOk result (λ log. log.spot ≡ spot) }
         ensures held { is_held directory.old ≡ true → is_held directory.new ≡ true }
     {
-        let identity = Identity::of(&file.metadata()?);
+        let found = file.metadata()?;
         file.sync()?;
         directory.sync_name(&mut file)?;
         Ok(LogFile {
             spot,
             file: Guarded::new(file),
-            identity,
+            identity: Identity::of(&found),
+            length: found.len(),
+            seen: found.len(),
         })
     }
 
@@ -71,17 +78,23 @@ impl LogFile {
         self.identity == other.identity
     }
 
-    /// The length in bytes, of the file that still stands at its path.
-    fn length(&self, rt: &HostRuntime, path: &str) -> io::Result<u64> {
+    /// Refuses a file that has gone from its path, was replaced there, or has another length than its own calls gave it.
+    fn look(&mut self, rt: &HostRuntime, path: &str) -> io::Result<()>
+        ensures spot { self.new.spot ≡ self.old.spot }
+        ensures file { self.new.file ≡ self.old.file }
+    {
         match found(rt, path)? {
-            Some(found) if Identity::of(&found) == self.identity => Ok(found.len()),
+            Some(found) if Identity::of(&found) == self.identity && found.len() == self.length => {
+                self.seen = self.length;
+                Ok(())
+            }
             _ => Err(ErrorKind::NotFound.into()),
         }
     }
 
     /// Refuses a place behind the end.
-    fn reach(&self, rt: &HostRuntime, path: &str, at: u32) -> io::Result<()> {
-        if u64::from(at) <= self.length(rt, path)? {
+    fn reach(&self, at: u32) -> io::Result<()> {
+        if u64::from(at) <= self.length {
             Ok(())
         } else {
             Err(ErrorKind::UnexpectedEof.into())
@@ -100,34 +113,34 @@ impl LogFile {
         ensures spot { self.new.spot ≡ self.old.spot }
         ensures called { IsOneCall (λ v. Read v.items) (Read []) self.old.file self.new.file result }
     {
-        let count = self.length(rt, path)?.min(u64::from(most));
+        self.look(rt, path)?;
+        let count = self.length.min(u64::from(most));
         let mut bytes = vec![in alloc; 0u8; count as usize]?;
         self.file.read(&mut bytes)?;
         Ok(bytes)
     }
 
     /// Lays a piece into the file at a place that is not behind its end.
-    pub(crate) fn write(
-        &mut self,
-        rt: &HostRuntime,
-        path: &str,
-        at: u32,
-        piece: &[u8],
-    ) -> io::Result<()>
+    pub(crate) fn write(&mut self, at: u32, piece: &[u8]) -> io::Result<()>
         ensures spot { self.new.spot ≡ self.old.spot }
         ensures called { IsOneCall (λ _. Write at piece.now) (Write at piece.now) self.old.file self.new.file result }
     {
-        self.reach(rt, path, at)?;
-        self.file.write(at, piece)
+        self.reach(at)?;
+        self.file.write(at, piece)?;
+        let end = u64::from(at).saturating_add(piece.len() as u64);
+        self.length = self.length.max(end);
+        Ok(())
     }
 
     /// Cuts the file to a length that is not greater than its own.
-    pub(crate) fn cut(&mut self, rt: &HostRuntime, path: &str, len: u32) -> io::Result<()>
+    pub(crate) fn cut(&mut self, len: u32) -> io::Result<()>
         ensures spot { self.new.spot ≡ self.old.spot }
         ensures called { IsOneCall (λ _. Cut len) (Cut len) self.old.file self.new.file result }
     {
-        self.reach(rt, path, len)?;
-        self.file.cut(len)
+        self.reach(len)?;
+        self.file.cut(len)?;
+        self.length = u64::from(len);
+        Ok(())
     }
 
     /// Makes the file stable.
@@ -135,7 +148,9 @@ impl LogFile {
         ensures spot { self.new.spot ≡ self.old.spot }
         ensures called { IsOneCall (λ _. Sync) Sync self.old.file self.new.file result }
     {
-        self.length(rt, path)?;
+        if self.length != self.seen {
+            self.look(rt, path)?;
+        }
         self.file.sync()
     }
 

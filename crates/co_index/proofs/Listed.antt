@@ -8,8 +8,7 @@ use Rattle.co_base.specs.Order.{key_cmp}
 use Rattle.co_base.specs.Span.{Span, span_has}
 use Rattle.co_state.specs.Keys.{same_key}
 use Rattle.co_index.specs.Listed.{has_key, keys_that}
-use Rattle.co_pairs.specs.NewPairs.{passes}
-use Rattle.co_pairs.proofs.Picking.{first, second}
+use Rattle.co_pairs.proofs.Picking.{passes, first, second}
 use Rattle.co_index.proofs.Keys.{tied, swapped}
 use Rattle.co_state.proofs.Ties.{less}
 

@@ -1,5 +1,6 @@
 -- What one range or one change more meets.
 use Rattle.std.proofs.Common.{◌≡◌, ℕ, Bool, true, false, ◌||◌, List, [], ◌∷◌, refl, sym, ap, ◌∙◌}
+use Rattle.std.specs.List.{list_any}
 use Rattle.std.specs.Ordering.{ordering_then}
 use Rattle.std.specs.declared.cmp.Ordering.{Ordering}
 use Rattle.std.specs.declared.cmp.Ordering.TheVariants.{Less, Equal, Greater}
@@ -21,13 +22,13 @@ or-twice : (a b : Bool) → (a || b) ≡ (a || (a || b))
 or-twice true b = refl
 or-twice false b = refl
 
-or-past : (a b c : Bool) → (a || (b || c)) ≡ (b || (a || c))
+pub or-past : (a b c : Bool) → (a || (b || c)) ≡ (b || (a || c))
 or-past true true c = refl
 or-past true false c = refl
 or-past false b c = refl
 
 -- two by two
-or-cross : (a b c d : Bool) → ((a || b) || (c || d)) ≡ ((a || c) || (b || d))
+pub or-cross : (a b c d : Bool) → ((a || b) || (c || d)) ≡ ((a || c) || (b || d))
 or-cross true b c d = refl
 or-cross false b c d = or-past b c d
 
@@ -42,6 +43,16 @@ same_span s u h = by (key_cmp s.lo u.lo) refl h
     by Less e f = absurd (let q : Less ≡ Equal = f in cc)
     by Greater e f = absurd (let q : Greater ≡ Equal = f in cc)
     by Equal e f = λ i. record { lo = equal_keys s.lo u.lo e i; hi = equal_keys s.hi u.hi f i }
+
+put_any : (f : Span → Bool) (span s : Span) (ss rest : List Span) → (r : Ordering) → span_cmp span s ≡ r → list_any f rest ≡ (f span || list_any f ss)
+    → list_any f (by_order r (span ∷ s ∷ ss) (s ∷ ss) (s ∷ rest)) ≡ (f span || list_any f (s ∷ ss))
+put_any f span s ss rest Less e next = refl
+put_any f span s ss rest Equal e next = or-twice (f s) (list_any f ss) ∙ ap (λ x. f x || list_any f (s ∷ ss)) (sym (same_span span s e))
+put_any f span s ss rest Greater e next = ap (λ b. f s || b) next ∙ or-past (f s) (f span) (list_any f ss)
+
+pub any-put : (f : Span → Bool) (span : Span) (spans : List Span) → list_any f (put_span span spans) ≡ (f span || list_any f spans)
+any-put f span [] = refl
+any-put f span (s ∷ ss) = put_any f span s ss (put_span span ss) (span_cmp span s) refl (any-put f span ss)
 
 put_reads : (span s : Span) (ss : List Span) (key : List ℕ) (rest : List Span) → (r : Ordering) → span_cmp span s ≡ r → reads_key rest key ≡ (span_has span key || reads_key ss key)
     → reads_key (by_order r (span ∷ s ∷ ss) (s ∷ ss) (s ∷ rest)) key ≡ (span_has span key || reads_key (s ∷ ss) key)

@@ -1,5 +1,4 @@
 pub mod Touching
-pub mod NewPairs
-pub mod Told
-pub mod Undecided
+pub mod Indexed
+pub mod Holding
 pub mod Listed

@@ -1,5 +1,5 @@
 //! Tables by key.
-ghost use Rattle.std.specs.Prelude.{◌≡◌, filter, OnOk, option_copied};
+ghost use Rattle.std.specs.Prelude.{length, ◌≡◌, filter, OnOk, option_copied};
 ghost use Rattle.std.specs.FinMap as map;
 ghost use Rattle.std.specs.FinMap.{entries};
 ghost use Rattle.co_base.specs.Span.{span_has};
@@ -43,6 +43,13 @@ impl<V> KeyMap<V> {
         ensures { option_copied result ≡ map.get self.now key.now }
     {
         self.entries.get(key)
+    }
+
+    /// How many entries there are. Takes no memory.
+    pub fn len(&self) -> usize
+        ensures { result ≡ length (entries self.now) }
+    {
+        self.entries.len()
     }
 
     /// Every entry, in the order of the keys.

@@ -1,34 +1,40 @@
 //! Which transactions touched which keys.
 ghost use Rattle.std.specs.Prelude.{◌≡◌, OnOk};
 ghost use Rattle.std.specs.FinMap as map;
-ghost use Rattle.co_index.specs.Touching.{or_nobody, with_touch, without_touch, settled, is_nobody};
+ghost use Rattle.co_index.specs.Touching.{or_nobody, with_touch, without_touch, with_mark, settled, is_nobody};
 
 use crate::key_map::KeyMap;
+use crate::touchers::Touchers;
 use co_base::{Key, Txn};
-use co_state::Table;
 use std::alloc::{AllocError, Global};
 
-/// The transactions that touched each key.
-pub type Touched = KeyMap<Table<()>>;
+/// The transactions that touched each key, each with a mark.
+pub(crate) type Touched<V> = KeyMap<Touchers<V>>;
 
-impl KeyMap<Table<()>> {
+impl<V: Drop> KeyMap<Touchers<V>> {
     /// Takes out those that touched a key.
-    fn take(&mut self, alloc: Global, key: &Key) -> Table<()>
+    fn take(&mut self, alloc: Global, key: &Key) -> Touchers<V>
         ensures value { result ≡ or_nobody (map.get self.old key.now) }
         ensures rest { self.new ≡ map.remove self.old key.now }
     {
         match self.remove(key) {
             Some(txns) => txns,
-            None => Table::new(alloc),
+            None => Touchers::new(alloc),
         }
     }
 
     /// A transaction touches a key.
-    pub(crate) fn add(&mut self, alloc: Global, key: &Key, t: Txn) -> Result<(), AllocError>
-        ensures { OnOk result (self.new ≡ with_touch self.old key.now t) }
+    pub(crate) fn add(
+        &mut self,
+        alloc: Global,
+        key: &Key,
+        t: Txn,
+        mark: V,
+    ) -> Result<(), AllocError>
+        ensures { OnOk result (self.new ≡ with_touch self.old key.now t mark) }
     {
         let mut txns = self.take(alloc, key);
-        txns.insert(t, ())?;
+        txns.insert(t, mark)?;
         self.insert(key.copy()?, txns)
     }
 
@@ -39,7 +45,7 @@ impl KeyMap<Table<()>> {
         let Some(txns) = self.entries.get_mut(key) else {
             return;
         };
-        let _ = txns.remove(t);
+        txns.remove(t);
     }
 
     /// Whether a key stands here that nobody touches.
@@ -67,5 +73,17 @@ impl KeyMap<Table<()>> {
     {
         self.take_away(key, t);
         self.settle(key);
+    }
+}
+
+impl KeyMap<Touchers<bool>> {
+    /// Marks a transaction at a key that it touched. Takes no memory.
+    pub(crate) fn mark(&mut self, key: &Key, t: Txn)
+        ensures { self.new ≡ with_mark self.old key.now t }
+    {
+        let Some(txns) = self.entries.get_mut(key) else {
+            return;
+        };
+        txns.mark(t);
     }
 }

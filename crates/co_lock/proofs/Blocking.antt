@@ -22,7 +22,7 @@ use Rattle.co_locktab.proofs.Orders.{same_number, one_number, number_itself}
 use Rattle.co_engine.specs.declared.undecided.Undecided.{Undecided}
 use Rattle.co_engine.specs.Undecided.{IsKept}
 use Rattle.co_engine.proofs.Rolling.{none_mapped}
-use Rattle.co_pairs.specs.NewPairs.{passes}
+use Rattle.co_pairs.proofs.Picking.{passes}
 use Rattle.co_lock.proofs.Locking.{and_false, or_false}
 use Rattle.co_state.proofs.Ties.{nothing_below}
 

@@ -27,7 +27,7 @@ use Rattle.co_lock.specs.LockedState.{LockedState, seen_by, ended}
 use Rattle.co_lock.specs.LockedState as state
 use Rattle.co_engine.proofs.Answering.{records_at-all}
 use Rattle.co_lock.specs.Standing.{Fits}
-use Rattle.co_lock.proofs.Locking.{same_as, one_of, other_than, itself, neither_left, neither_right, right_true, or_true, and_false}
+use Rattle.co_lock.proofs.Locking.{same_as, one_of, other_than, neither_left, neither_right, right_true, or_true, and_false}
 
 -- ---- histories
 append_left : {A : Type 0} (xs ys : List A) → xs ++ ys ≡ [] → xs ≡ []
@@ -132,16 +132,13 @@ module _ (g : LockedState) (b : EngineState) (t : ℕ) (op : Op) (h : Fits g b) 
   at_t : {A : Type 0} (f : ℕ → A) (u : ℕ) → (u == t) ≡ true → f u ≡ f t
   at_t f u e = ap f (one_of u t e)
 
-  pub other_sets : (u : ℕ) → (u == t) ≡ false → sets_at (with_operation b t op) u ≡ sets_at b u
-  other_sets u e = sets_with u ∙ ap (λ c. if c then sets_of (done ∷ before) else sets_at b u) e
-
   -- a read
   module _ (span : Span) (reads : span_read op ≡ Some span) (writes : change_made op ≡ None) (free : (u : ℕ) → u ≢ t → (q : List ℕ) → span_has span q ≡ true → g.wrote u q ≡ false) where
     same_by : (u : ℕ) (c : Bool) → (u == t) ≡ c → (if c then sets_of (done ∷ before) else sets_at b u).writes ≡ (sets_at b u).writes
     same_by u true e = ap (λ w. with_written w (changes_of before)) writes ∙ ap (λ s. s.writes) (sym own_sets_are) ∙ sym (at_t (λ j. (sets_at b j).writes) u e)
     same_by u false e = refl
 
-    pub same_writes : (u : ℕ) → (sets_at (with_operation b t op) u).writes ≡ (sets_at b u).writes
+    same_writes : (u : ℕ) → (sets_at (with_operation b t op) u).writes ≡ (sets_at b u).writes
     same_writes u = ap (λ s. s.writes) (sets_with u) ∙ same_by u (u == t) refl
 
     reads_by : (u : ℕ) (q : List ℕ) (c : Bool) → (u == t) ≡ c → ((c && span_has span q) || g.reads u q) ≡ reads_key (spans_of (if c then done ∷ before else operations_of b u)) q
@@ -175,18 +172,6 @@ module _ (g : LockedState) (b : EngineState) (t : ℕ) (op : Op) (h : Fits g b) 
         ap (λ r. same_key change.key q || r) (h.wrote_are u q ∙ at_t (λ j. writes_key (sets_at b j).writes q) u e ∙ ap (λ s. writes_key s.writes q) own_sets_are)
         ∙ sym (writes-put change (changes_of before) q) ∙ ap (λ ws. writes_key ws q) (sym own_writes)
     wrote_by u q false e = h.wrote_are u q
-
-    same_reads_by : (u : ℕ) (c : Bool) → (u == t) ≡ c → (if c then sets_of (done ∷ before) else sets_at b u).reads ≡ (sets_at b u).reads
-    same_reads_by u true e = ap (λ r. with_span r (spans_of before)) reads ∙ ap (λ s. s.reads) (sym own_sets_are) ∙ sym (at_t (λ j. (sets_at b j).reads) u e)
-    same_reads_by u false e = refl
-
-    pub same_reads : (u : ℕ) → (sets_at (with_operation b t op) u).reads ≡ (sets_at b u).reads
-    same_reads u = ap (λ s. s.reads) (sets_with u) ∙ same_reads_by u (u == t) refl
-
-    pub becomes : (sets_at (with_operation b t op) t).writes ≡ put_change change (sets_at b t).writes
-    becomes =
-        ap (λ s. s.writes) (sets_with t ∙ ap (λ c. if c then sets_of (done ∷ before) else sets_at b t) (itself t)) ∙ own_writes
-        ∙ ap (λ s. put_change change s.writes) (sym own_sets_are)
 
     laid : (q : List ℕ) → get (with_changes empty (sets_of (done ∷ before)).writes) q ≡ (if same_key change.key q then change.value else get (with_changes empty (changes_of before)) q)
     laid q =

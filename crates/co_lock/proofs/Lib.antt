@@ -3,7 +3,5 @@ pub mod Stepping
 mod Blocking
 mod Fitting
 mod Rolling
-mod Pairing
-mod Reading
 mod Standing
 mod Restoring

@@ -4,9 +4,8 @@ use Rattle.co_base.specs.declared.op.Op.{Op}
 use Rattle.co_base.specs.declared.written.Written.{Written}
 use Rattle.co_base.specs.Span.{Span}
 use Rattle.co_engine.specs.declared.undecided.Undecided.{Undecided}
-use Rattle.co_engine.specs.Undecided.{active_with, own, IsKept}
+use Rattle.co_engine.specs.Undecided.{active_with, grown_by, own, IsKept}
 use Rattle.co_engine.proofs.Rolling.{kept_along, each_grown}
-use Rattle.co_pairs.specs.NewPairs.{grown_by}
 use Rattle.co_state.specs.declared.engine_state.EngineState.{EngineState}
 use Rattle.co_state.specs.Changes.{span_read, change_made, with_span, with_written}
 use Rattle.co_state.specs.EngineState.{operations_of}

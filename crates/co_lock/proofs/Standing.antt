@@ -1,5 +1,5 @@
 -- For which states a locking engine stands after each call.
-use Rattle.std.proofs.Common.{◌≡◌, ◌≢◌, ◌⊎◌, inl, inr, ℕ, Bool, true, false, cond, not, ◌&&◌, ◌||◌, List, [], map, if◌then◌else◌, is_some, Option, None, Some, IsTrue, refl, sym, ap, ◌∙◌, subst, true≢false}
+use Rattle.std.proofs.Common.{◌≡◌, ◌≢◌, ◌⊎◌, inl, inr, ℕ, Bool, true, false, cond, not, ◌&&◌, ◌||◌, List, [], if◌then◌else◌, is_some, Option, None, Some, IsTrue, refl, sym, ap, ◌∙◌, subst, true≢false}
 use Rattle.std.specs.Prelude.{◌==◌}
 use Rattle.std.specs.FinMap.{empty, entries, get}
 use Rattle.co_base.specs.declared.op.Op.{Op}
@@ -9,39 +9,27 @@ use Rattle.co_base.specs.Span.{Span, span_has}
 use Rattle.co_serial.specs.Records.{with_changes}
 use Rattle.co_state.specs.declared.engine_state.EngineState.{EngineState}
 use Rattle.co_state.specs.declared.engine_state.Operation.{Operation}
-use Rattle.co_state.specs.declared.engine_state.Sets.{Sets}
 use Rattle.co_state.specs.declared.engine_state.Vote.{Vote}
-use Rattle.co_state.specs.Changes.{sets_of, spans_of, span_read, change_made, put_change, no_sets}
-use Rattle.co_state.specs.Conflicts.{AreNewPairs}
-use Rattle.co_state.specs.Effects.{with_operation, after_cast, after_drop, install_vote, undecided_changes}
+use Rattle.co_state.specs.Changes.{sets_of, spans_of, span_read, change_made, no_sets}
+use Rattle.co_state.specs.Effects.{after_cast, after_drop, install_vote, undecided_changes}
 use Rattle.co_state.specs.EngineState.{operations_in, operations_of, sets_in, sets_at, installed_records}
 use Rattle.co_state.specs.Keys.{reads_key, writes_key, writes_within, least_key}
 use Rattle.co_state.specs.LockRule.{lock_blocker, lock_holder, blocker_by}
 use Rattle.co_state.specs.StaleRead.{stale_key}
 use Rattle.co_state.specs.Table.{Table, look, without, holds}
 use Rattle.co_state.proofs.Tables.{look-put, look-without}
-use Rattle.co_engine.specs.Calls.{may_operate}
 use Rattle.co_locktab.specs.Locks.{IsLeast}
 use Rattle.co_locktab.proofs.Orders.{same_number}
 use Rattle.co_law_engine.proofs.Keys.{unchanged, overlaid}
-use Rattle.co_engine.specs.declared.undecided.Undecided.{Undecided}
 use Rattle.co_lock.specs.declared.engine.LockEngine.{LockEngine}
-use Rattle.co_lock.specs.declared.locked_store.LockedStore.{LockedStore}
 use Rattle.co_lock.specs.LockedState as state
 use Rattle.co_lock.specs.LockedState.{LockedState, IsClear}
-use Rattle.co_lock.specs.Locked.{IsLocked}
-use Rattle.co_engine.specs.Undecided.{changes_kept, own, or_new, IsKept, voted_sets}
+use Rattle.co_engine.specs.Undecided.{changes_kept}
 use Rattle.co_engine.proofs.Keeping.{kept_changes}
-use Rattle.co_engine.proofs.Answering.{not_voted}
-use Rattle.co_engine.proofs.Rolling.{sets_kept, own_kept, none_mapped}
-use Rattle.co_pairs.specs.NewPairs.{found_in, pair_of}
-use Rattle.co_pairs.specs.declared.side.Side.TheVariants.{Writer}
 use Rattle.co_lock.specs.Standing.{StandsFor, Fits}
-use Rattle.co_lock.specs.Undecided.{newly_reads}
 use Rattle.co_lock.proofs.Blocking.{blocks, holder_least, least_unique, kept_one}
-use Rattle.co_lock.proofs.Fitting.{fits_read, fits_write, fits_end, fits_cast, fresh_install, same_writes, same_reads, becomes, other_sets}
-use Rattle.co_lock.proofs.Locking.{holds_key, neither_left, neither_right, one_of, same_as}
-use Rattle.co_lock.proofs.Pairing.{nothing_made, readers_made}
+use Rattle.co_lock.proofs.Fitting.{fits_end, fits_cast, fresh_install}
+use Rattle.co_lock.proofs.Locking.{holds_key, neither_left, one_of, same_as}
 
 pub one_each : (p : LockEngine) (b : EngineState) → StandsFor p b → (u : ℕ) → (look b.active u ≡ None) ⊎ (look b.voted u ≡ None)
 one_each p b s u = kept_one (look p.roll u) (look b.active u) (look b.voted u) (s.each u)
@@ -95,48 +83,6 @@ clear_write p b t op change s writes none u n =
 
 pub alone_in : (p : LockEngine) (b : EngineState) (t : ℕ) (op : Op) (change : Written) (s : StandsFor p b) → change_made op ≡ Some change → lock_blocker b t op ≡ None → IsClear s.place t change.key
 alone_in p b t op change s writes none u n = neither_left _ _ (clear_write p b t op change s writes none u n)
-
--- ---- the pairs
-pub pairs_of_read : (p : LockEngine) (b : EngineState) (t : ℕ) (op : Op) (span : Span) (s : StandsFor p b) → IsTrue (may_operate b t) → span_read op ≡ Some span → change_made op ≡ None → lock_blocker b t op ≡ None
-    → AreNewPairs b (with_operation b t op) []
-pairs_of_read p b t op span s may reads writes none =
-    let voted = not_voted b t may in
-    let f : Fits (state.with_read s.place t span) (with_operation b t op) = fits_read s.place b t op s.fits s.kind_is voted span reads writes (clear_read p b t op span s reads none) in
-    nothing_made b (with_operation b t op)
-    (λ u v q n w. sym (f.wrote_are v q) ∙ s.locked.apart u v q n (f.wrote_are u q ∙ w))
-    t
-    (same_writes s.place b t op s.fits s.kind_is voted span reads writes (clear_read p b t op span s reads none))
-    (λ u e. ap (λ x. x.reads) (other_sets s.place b t op s.fits s.kind_is voted u e))
-    (λ v q n w.
-    ap (λ x. reads_key (sets_in x (operations_of (with_operation b t op) t)).reads q) voted ∙ sym (f.reads_are t q)
-    ∙ by f v q n (f.wrote_are v q ∙ w) (((t == t) && span_has span q) || s.place.reads t q) refl)
-  where
-    by : Fits (state.with_read s.place t span) (with_operation b t op) → (v : ℕ) (q : List ℕ) → v ≢ t → s.place.wrote v q ≡ true → (c : Bool) → (((t == t) && span_has span q) || s.place.reads t q) ≡ c → c ≡ false
-    by f v q n w true r = absurd (true≢false (sym w ∙ f.readers_apart t v q (λ is. n (sym is)) r))
-    by f v q n w false r = refl
-
-pub pairs_of_write : (p : LockEngine) (b : EngineState) (t : ℕ) (op : Op) (change : Written) (s : StandsFor p b) → IsTrue (may_operate b t) → span_read op ≡ None → change_made op ≡ Some change → lock_blocker b t op ≡ None
-    → (place : LockedStore) → IsLocked place (state.with_write s.place t change.key change.value)
-    → AreNewPairs b (with_operation b t op) (map (pair_of Writer t) (found_in (λ u. newly_reads change.key (own p.roll t).sets.writes) (entries (without p.roll t))))
-pairs_of_write p b t op change s may reads writes none next locked =
-    let voted = not_voted b t may in
-    let free = clear_write p b t op change s writes none in
-    let f : Fits (state.with_write s.place t change.key change.value) (with_operation b t op) = fits_write s.place b t op s.fits s.kind_is voted change reads writes free in
-    let was : (sets_at b t).writes ≡ (own p.roll t).sets.writes = ap (λ x. x.writes) (sets_kept (look p.roll t) (look b.active t) (look b.voted t) (s.each t)) in
-    readers_made b (with_operation b t op)
-    (λ u v q n w. sym (f.wrote_are v q) ∙ locked.apart u v q n (f.wrote_are u q ∙ w))
-    p.roll t change (own p.roll t).sets.writes
-    (λ u. sets_kept (look p.roll u) (look b.active u) (look b.voted u) (s.each u))
-    was
-    (becomes s.place b t op s.fits s.kind_is voted change reads writes free ∙ ap (put_change change) was)
-    (same_reads s.place b t op s.fits s.kind_is voted change reads writes free)
-    (λ u e. ap (λ x. x.writes) (other_sets s.place b t op s.fits s.kind_is voted u e))
-    (λ u e n is unvoted. unread_by u e is unvoted (s.each u) (neither_right _ _ (free u n)))
-  where
-    unread_by : (u : ℕ) (e : Undecided) → look p.roll u ≡ Some e → e.voted ≡ false → IsKept (look p.roll u) (look b.active u) (look b.voted u) → s.place.reads u change.key ≡ false → reads_key e.sets.reads change.key ≡ false
-    unread_by u e is unvoted k free =
-        let none : look b.voted u ≡ None = none_mapped (λ v. v.sets) (look b.voted u) (k.votes_are ∙ ap voted_sets is ∙ ap (λ v. if v then Some e.sets else None) unvoted) in
-        ap (λ (x : Sets). reads_key x.reads change.key) (sym (own_kept p.roll b u k none ∙ ap (λ o. (or_new o).sets) is)) ∙ sym (s.fits.reads_are u change.key) ∙ free
 
 -- ---- votes and ends
 cond_if : {A : Type 0} (c b : Bool) (x y : A) → c ≡ b → cond c x y ≡ (if b then x else y)

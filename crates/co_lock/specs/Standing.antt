@@ -4,15 +4,11 @@ use Rattle.std.specs.FinMap.{empty, get}
 use Rattle.co_base.specs.declared.head.Kind.TheVariants.{Lock}
 use Rattle.co_serial.specs.Records.{with_changes}
 use Rattle.co_state.specs.declared.engine_state.EngineState.{EngineState}
-use Rattle.co_state.specs.declared.engine_state.Sets.{Sets}
 use Rattle.co_state.specs.Changes.{spans_of}
 use Rattle.co_state.specs.EngineState.{installed_records, operations_of, sets_at}
 use Rattle.co_state.specs.Keys.{reads_key, writes_key}
 use Rattle.co_state.specs.StaleRead.{stale_keys}
-use Rattle.co_state.specs.Table.{Table, look}
-use Rattle.co_index.specs.declared.index.Index.{Index}
-use Rattle.co_index.specs.Touching.{Tells}
-use Rattle.co_engine.specs.declared.undecided.Undecided.{Undecided}
+use Rattle.co_state.specs.Table.{look}
 use Rattle.co_engine.specs.Undecided.{IsKept}
 use Rattle.co_lock.specs.declared.engine.LockEngine.{LockEngine}
 use Rattle.co_lock.specs.Locked.{IsLocked}
@@ -28,17 +24,9 @@ pub record Fits (g : LockedState) (b : EngineState) : Type 0 where
   pub readers_apart : (u v : ℕ) (q : List ℕ) → u ≢ v → g.reads u q ≡ true → g.wrote v q ≡ false
   pub fresh : (u : ℕ) → stale_keys b.installed (operations_of b u) ≡ []
 
--- what a transaction read, as far as the index of the readers tells it
-abbrev pub reads_alone : Undecided → Sets
-reads_alone e = record { reads = e.sets.reads; writes = [] }
-
-abbrev pub TellsReads : Index → Table Undecided → Type 0
-TellsReads readers roll = Tells reads_alone readers roll
-
 pub record StandsFor (p : LockEngine) (b : EngineState) : Type 0 where
   pub kind_is : b.kind ≡ Lock
   pub each : (t : ℕ) → IsKept (look p.roll t) (look b.active t) (look b.voted t)
   pub place : LockedState
   pub locked : IsLocked p.place place
   pub fits : Fits place b
-  pub indexed : TellsReads p.readers p.roll

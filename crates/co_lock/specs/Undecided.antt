@@ -1,11 +1,10 @@
 -- What a locking engine keeps of its undecided transactions, with one operation more.
-use Rattle.std.specs.Prelude.{ℕ, Bool, ◌&&◌, not, List}
+use Rattle.std.specs.Prelude.{ℕ}
 use Rattle.co_base.specs.Span.{Span}
 use Rattle.co_base.specs.declared.written.Written.{Written}
 use Rattle.co_engine.specs.declared.undecided.Undecided.{Undecided}
 use Rattle.co_engine.specs.Undecided.{active_with, own}
 use Rattle.co_state.specs.Changes.{put_span, put_change}
-use Rattle.co_state.specs.Keys.{reads_key, reads_meet}
 use Rattle.co_state.specs.Table.{Table, put, without}
 
 -- an active transaction with a range more, and with a change more
@@ -14,7 +13,3 @@ with_range roll t span = put (without roll t) t (active_with (record { reads = p
 
 abbrev pub with_change_of : Table Undecided → ℕ → Written → Table Undecided
 with_change_of roll t change = put (without roll t) t (active_with (record { reads = (own roll t).sets.reads; writes = put_change change (own roll t).sets.writes }))
-
--- whether a transaction voted and read the key, and read nothing that t wrote before
-abbrev pub newly_reads : List ℕ → List Written → Undecided → Bool
-newly_reads key before e = e.voted && reads_key e.sets.reads key && not (reads_meet e.sets.reads before)

@@ -1,6 +1,5 @@
 //! The locking engine.
-ghost use Rattle.std.specs.Prelude.{◌≡◌, ◌∷◌, true, None, Some, IsTrue, IfOk, OnOk, OnErr, ℕ, List, map, option_copied, false};
-ghost use Rattle.std.specs.FinMap.{entries};
+ghost use Rattle.std.specs.Prelude.{◌≡◌, ◌∷◌, true, None, Some, IsTrue, IfOk, OnOk, ℕ, List, option_copied, false};
 ghost use Rattle.co_base.specs.declared.head.Kind.TheVariants.{Lock};
 ghost use Rattle.co_base.specs.declared.op.Op.{Op};
 ghost use Rattle.co_base.specs.declared.row.Row.{Row};
@@ -9,29 +8,20 @@ ghost use Rattle.co_pairs.specs.Free.{clashes_with};
 ghost use Rattle.co_pairs.specs.declared.prepared.Prepared.{Prepared};
 ghost use Rattle.co_state.specs.declared.engine_state.EngineState.{EngineState};
 ghost use Rattle.co_state.specs.Changes.{span_read, change_made};
-ghost use Rattle.co_state.specs.Conflicts.{AreNewPairs};
 ghost use Rattle.co_state.specs.Effects.{after_operation, with_operation, restored, records_from};
 ghost use Rattle.co_state.specs.EngineState.{installed_records};
 ghost use Rattle.co_state.specs.LockRule.{lock_blocker};
 ghost use Rattle.co_state.specs.ReadRule.{operation_reply};
-ghost use Rattle.co_state.specs.Table.{look, without};
-ghost use Rattle.co_engine.specs.Calls.{may_operate, seen_of, votes_of, Appends, AppendsNewPairs};
+ghost use Rattle.co_engine.specs.Calls.{may_operate, seen_of, votes_of};
 ghost use Rattle.co_lock.specs.Locked.{IsLocked};
 ghost use Rattle.co_lock.specs.LockedState.{LockedState, IsClear, with_writes};
-ghost use Rattle.co_index.specs.Touching.{gone_from};
-ghost use Rattle.co_lock.specs.Standing.{StandsFor, TellsReads};
-ghost use Rattle.std.specs.Option.{option_map};
-ghost use Rattle.co_engine.specs.Undecided.{own};
-ghost use Rattle.co_lock.specs.Undecided.{with_range, with_change_of, newly_reads};
-ghost use Rattle.co_pairs.specs.NewPairs.{found_in, pair_of};
-ghost use Rattle.co_pairs.specs.declared.side.Side.TheVariants.{Writer};
+ghost use Rattle.co_lock.specs.Standing.{StandsFor};
+ghost use Rattle.co_lock.specs.Undecided.{with_range, with_change_of};
 
 use crate::locked_store::LockedStore;
-use crate::pairs::pairs_made;
 use co_base::{Key, Kind, Op, Range, Ranges, Reply, Rows, Txn, Value, Writes, Written};
-use co_engine::{Dump, Engine, Roll, Seen, Undecided, append, copy_value, dump_in_place, writing};
-use co_index::Index;
-use co_pairs::{Pairs, Prepared, Sets};
+use co_engine::{Dump, Engine, Roll, Seen, Undecided, copy_value, dump_in_place, writing};
+use co_pairs::{Prepared, Sets};
 use co_state::{RecordMap, put_change, put_range, records_from};
 use std::alloc::{AllocError, Global};
 
@@ -41,15 +31,7 @@ use std::alloc::{AllocError, Global};
 pub struct LockEngine {
     place: LockedStore,
     roll: Roll,
-    readers: Index,
     nothing: Sets,
-}
-
-/// An answered or blocked operation with the pairs that it made.
-#[derive(Drop)]
-struct Operated {
-    seen: Seen,
-    pairs: Pairs,
 }
 
 /// A transaction read a range.
@@ -67,19 +49,11 @@ fn note_read(alloc: Global, roll: &mut Roll, t: Txn, range: Range) -> Result<(),
     roll.put(t, Undecided { voted: false, sets })
 }
 
-/// A transaction made a change. Gives the pairs that the change makes.
-fn note_write(
-    alloc: Global,
-    roll: &mut Roll,
-    readers: &Index,
-    t: Txn,
-    change: Written,
-) -> Result<Pairs, AllocError>
-    ensures roll { OnOk result (roll.new ≡ with_change_of roll.old t change) }
-    ensures pairs { TellsReads readers.now roll.old → IfOk result (λ pairs. pairs ≡ map (pair_of Writer t) (found_in (λ u. newly_reads change.key (own roll.old t).sets.writes) (entries (without roll.old t)))) }
+/// A transaction made a change.
+fn note_write(alloc: Global, roll: &mut Roll, t: Txn, change: Written) -> Result<(), AllocError>
+    ensures { OnOk result (roll.new ≡ with_change_of roll.old t change) }
 {
     let own = roll.take_or_new(alloc, t);
-    let pairs = pairs_made(alloc, readers, roll, t, &change.key, &own.sets)?;
     let sets = own.sets;
     let mut writes = sets.writes.into_vec();
     put_change(&mut writes, change)?;
@@ -87,19 +61,7 @@ fn note_write(
         reads: sets.reads,
         writes: Writes::of(writes),
     };
-    roll.put(t, Undecided { voted: false, sets })?;
-    Ok(pairs)
-}
-
-/// Takes an undecided transaction out. Takes no memory.
-fn take_out(roll: &mut Roll, readers: &mut Index, t: Txn)
-    ensures roll { roll.new ≡ without roll.old t }
-    ensures readers { readers.new ≡ gone_from readers.old t (option_map (λ e. e.sets) (look roll.old t)) }
-{
-    match roll.take(t) {
-        Some(undecided) => readers.forget(&undecided.sets, t),
-        None => {}
-    }
+    roll.put(t, Undecided { voted: false, sets })
 }
 
 /// The value that stands there, if there is one.
@@ -125,7 +87,6 @@ impl LockEngine {
         ensures { (rows : List Row) (ps : List Prepared) → StandsFor self.old (restored Lock (records_from rows) (votes_of ps)) → clashes_with prepared.now ps ≡ false → OnOk result (StandsFor self.new (restored Lock (records_from rows) (votes_of (prepared.now ∷ ps)))) }
     {
         lay_changes(&mut self.place, prepared.txn, prepared.sets.writes())?;
-        self.readers.add_sets(alloc, &prepared.sets, prepared.txn)?;
         self.roll.put(
             prepared.txn,
             Undecided {
@@ -164,33 +125,24 @@ impl LockEngine {
         ensures { (b : EngineState) (op : Op) → StandsFor self.old b → IsTrue (may_operate b t) → span_read op ≡ Some range → change_made op ≡ None → lock_blocker b t op ≡ None → OnOk result (StandsFor self.new (with_operation b t op)) }
     {
         self.place.read(t, &range)?;
-        self.readers.add_read(alloc, &range, t)?;
         note_read(alloc, &mut self.roll, t, range)
     }
 
-    /// A change, which is not blocked. Gives the pairs that it makes.
-    fn add_write(&mut self, alloc: Global, t: Txn, change: Written) -> Result<Pairs, AllocError>
-        ensures state { (b : EngineState) (op : Op) → StandsFor self.old b → IsTrue (may_operate b t) → span_read op ≡ None → change_made op ≡ Some change → lock_blocker b t op ≡ None → OnOk result (StandsFor self.new (with_operation b t op)) }
-        ensures pairs { (b : EngineState) (op : Op) → StandsFor self.old b → IsTrue (may_operate b t) → span_read op ≡ None → change_made op ≡ Some change → lock_blocker b t op ≡ None → IfOk result (AreNewPairs b (with_operation b t op)) }
+    /// A change, which is not blocked.
+    fn add_write(&mut self, alloc: Global, t: Txn, change: Written) -> Result<(), AllocError>
+        ensures { (b : EngineState) (op : Op) → StandsFor self.old b → IsTrue (may_operate b t) → span_read op ≡ None → change_made op ≡ Some change → lock_blocker b t op ≡ None → OnOk result (StandsFor self.new (with_operation b t op)) }
     {
         self.place.write(t, &change.key, lent(&change.value))?;
-        note_write(alloc, &mut self.roll, &self.readers, t, change)
+        note_write(alloc, &mut self.roll, t, change)
     }
 
-    /// Adds an operation to its transaction, which is not blocked, and gives the pairs that it makes.
-    fn add(&mut self, alloc: Global, t: Txn, op: Op) -> Result<Pairs, AllocError>
-        ensures state { (b : EngineState) → StandsFor self.old b → IsTrue (may_operate b t) → lock_blocker b t op ≡ None → OnOk result (StandsFor self.new (with_operation b t op)) }
-        ensures pairs { (b : EngineState) → StandsFor self.old b → IsTrue (may_operate b t) → lock_blocker b t op ≡ None → IfOk result (AreNewPairs b (with_operation b t op)) }
+    /// Adds an operation to its transaction, which is not blocked.
+    fn add(&mut self, alloc: Global, t: Txn, op: Op) -> Result<(), AllocError>
+        ensures { (b : EngineState) → StandsFor self.old b → IsTrue (may_operate b t) → lock_blocker b t op ≡ None → OnOk result (StandsFor self.new (with_operation b t op)) }
     {
         match op {
-            Op::Read(key) => {
-                self.add_read(alloc, t, Range::of_key(&key)?)?;
-                Ok(Pairs::new(alloc))
-            }
-            Op::Scan(range) => {
-                self.add_read(alloc, t, range)?;
-                Ok(Pairs::new(alloc))
-            }
+            Op::Read(key) => self.add_read(alloc, t, Range::of_key(&key)?),
+            Op::Scan(range) => self.add_read(alloc, t, range),
             Op::Write(key, value) => {
                 let value = Some(value);
                 self.add_write(alloc, t, Written { key, value })
@@ -200,42 +152,17 @@ impl LockEngine {
     }
 
     /// Does an operation, unless another transaction is in the way.
-    fn operate(&mut self, alloc: Global, t: Txn, op: Op) -> Result<Operated, AllocError>
-        ensures seen { (b : EngineState) → StandsFor self.old b → IsTrue (may_operate b t) → IfOk result (λ operated. operated.seen ≡ seen_of b t op) }
+    fn operate(&mut self, alloc: Global, t: Txn, op: Op) -> Result<Seen, AllocError>
+        ensures seen { (b : EngineState) → StandsFor self.old b → IsTrue (may_operate b t) → IfOk result (λ seen. seen ≡ seen_of b t op) }
         ensures state { (b : EngineState) → StandsFor self.old b → IsTrue (may_operate b t) → OnOk result (StandsFor self.new (after_operation b t op)) }
-        ensures pairs { (b : EngineState) → StandsFor self.old b → IsTrue (may_operate b t) → IfOk result (λ operated. AreNewPairs b (after_operation b t op) operated.pairs) }
     {
         let found = self.blocker(t, &op)?;
         if let Some(holder) = found {
-            return Ok(Operated {
-                seen: Seen::Blocked(holder),
-                pairs: Pairs::new(alloc),
-            });
+            return Ok(Seen::Blocked(holder));
         }
         let reply = self.reply(t, &op)?;
-        let pairs = self.add(alloc, t, op)?;
-        Ok(Operated {
-            seen: Seen::Answer(reply),
-            pairs,
-        })
-    }
-
-    /// Does an operation, unless another transaction is in the way, and adds the pairs that it made.
-    fn serve(
-        &mut self,
-        alloc: Global,
-        t: Txn,
-        op: Op,
-        pairs: &mut Pairs,
-    ) -> Result<Seen, AllocError>
-        ensures seen { (b : EngineState) → StandsFor self.old b → IsTrue (may_operate b t) → IfOk result (λ seen. seen ≡ seen_of b t op) }
-        ensures state { (b : EngineState) → StandsFor self.old b → IsTrue (may_operate b t) → OnOk result (StandsFor self.new (after_operation b t op)) }
-        ensures pairs { (b : EngineState) → StandsFor self.old b → IsTrue (may_operate b t) → OnOk result (AppendsNewPairs b (after_operation b t op) pairs.old pairs.new) }
-        ensures kept { OnErr result (Appends pairs.old pairs.new) }
-    {
-        let operated = self.operate(alloc, t, op)?;
-        append(pairs, &operated.pairs)?;
-        Ok(operated.seen)
+        self.add(alloc, t, op)?;
+        Ok(Seen::Answer(reply))
     }
 
     /// The installed records.
@@ -260,7 +187,6 @@ impl Engine for LockEngine {
         let mut engine = LockEngine {
             place: LockedStore::of_rows(alloc, rows)?,
             roll: Roll::new(alloc),
-            readers: Index::new(alloc),
             nothing: Sets::new(alloc),
         };
         let mut place = voted.len();
@@ -271,26 +197,14 @@ impl Engine for LockEngine {
         Ok(engine)
     }
 
-    fn read(
-        &mut self,
-        alloc: Global,
-        t: Txn,
-        key: &Key,
-        pairs: &mut Pairs,
-    ) -> Result<Seen, AllocError> {
+    fn read(&mut self, alloc: Global, t: Txn, key: &Key) -> Result<Seen, AllocError> {
         let op = Op::Read(key.copy()?);
-        self.serve(alloc, t, op, pairs)
+        self.operate(alloc, t, op)
     }
 
-    fn scan(
-        &mut self,
-        alloc: Global,
-        t: Txn,
-        range: &Range,
-        pairs: &mut Pairs,
-    ) -> Result<Seen, AllocError> {
+    fn scan(&mut self, alloc: Global, t: Txn, range: &Range) -> Result<Seen, AllocError> {
         let op = Op::Scan(range.copy()?);
-        self.serve(alloc, t, op, pairs)
+        self.operate(alloc, t, op)
     }
 
     fn write(
@@ -299,10 +213,9 @@ impl Engine for LockEngine {
         t: Txn,
         key: &Key,
         value: Option<&Value>,
-        pairs: &mut Pairs,
     ) -> Result<Seen, AllocError> {
         let op = writing(key, value)?;
-        self.serve(alloc, t, op, pairs)
+        self.operate(alloc, t, op)
     }
 
     fn sets(&self, t: Txn) -> &Sets {
@@ -322,13 +235,13 @@ impl Engine for LockEngine {
     }
 
     fn install(&mut self, alloc: Global, t: Txn) -> Result<(), AllocError> {
-        take_out(&mut self.roll, &mut self.readers, t);
+        let _ = self.roll.take(t);
         self.place.keep(t);
         Ok(())
     }
 
     fn drop_txn(&mut self, t: Txn) {
-        take_out(&mut self.roll, &mut self.readers, t);
+        let _ = self.roll.take(t);
         self.place.undo(t);
     }
 

@@ -8,6 +8,5 @@
 
 mod engine;
 mod locked_store;
-mod pairs;
 
 pub use engine::LockEngine;

@@ -4,7 +4,7 @@ ghost use Rattle.co_plain.specs.MemberStep.{standing_of};
 ghost use Rattle.co_plain.specs.MemberView.{recovered_view};
 ghost use Rattle.co_plain.specs.declared.member_state.MemberState.{MemberState};
 ghost use Rattle.co_recover.specs.Recovered.{past_of_member};
-ghost use Rattle.co_state.specs.Table.{look};
+ghost use Rattle.co_state.specs.Table.{look, holds};
 ghost use Rattle.co_undecided.specs.Kept.{coord_asked};
 ghost use Rattle.co_vote.specs.Ballots.{verdict_of};
 ghost use Rattle.co_member.specs.Attaching.{IsReadable};
@@ -79,6 +79,14 @@ impl<E: Engine + Drop> Member<E> {
         let undecided = &self.running().undecided;
         let mark = undecided.mark_of(t)?;
         Some(undecided.ballot(t, mark.count))
+    }
+
+    /// Whether an active transaction was asked for its vote, which is held. Takes no memory.
+    pub fn is_asked(&self, t: Txn) -> bool
+        requires up { is_up self.now ≡ true }
+        ensures { (x : MemberState) → RepresentsMember E.stands_for self.now x → result ≡ holds x.asked t }
+    {
+        self.running().undecided.mark_of(t).is_some()
     }
 
     /// The coordinator that asked for the vote of a voted transaction; none of another one. Takes no memory.

@@ -18,9 +18,7 @@ use Rattle.co_state.specs.declared.engine_state.Install.{Install}
 use Rattle.co_state.specs.declared.engine_state.Operation.{Operation}
 use Rattle.co_state.specs.declared.engine_state.Sets.{Sets}
 use Rattle.co_state.specs.declared.engine_state.Vote.{Vote}
-use Rattle.co_state.specs.declared.pair.Pair.{Pair}
 use Rattle.co_state.specs.Changes.{sets_of}
-use Rattle.co_state.specs.Conflicts.{AreNewPairs}
 use Rattle.co_state.specs.Effects.{with_operation, after_cast, after_install, after_drop, install_vote, restored, dumped_rows}
 use Rattle.co_state.specs.EngineState.{operations_in, operations_of, sets_in, sets_at, records_at}
 use Rattle.co_state.specs.Keys.{least_key, reads_key}
@@ -35,13 +33,11 @@ use Rattle.co_mv.specs.declared.mv_engine.MvEngine.{MvEngine}
 use Rattle.co_mv.specs.declared.version.Version.{Version}
 use Rattle.co_mv.specs.Chains.{chain_of, chain_in}
 use Rattle.co_mv.specs.Kept.{needed, or_now, stamp_of, entered, left, grown, IsNeeded, Keeps, AreStamped, active_sets, voted_sets, IsKept, StandsFor, own_writes, visible_within}
-use Rattle.co_pairs.specs.NewPairs.{mapped, or_nothing, grown_by, sets_among, AreNew}
-use Rattle.co_index.specs.Undecided.{IsWhole, grown_at}
+use Rattle.co_engine.specs.Undecided.{or_nothing, grown_by, grown_at}
 use Rattle.co_engine.proofs.Answering.{cond-same, not_voted, records_at-all}
 use Rattle.co_pairs.specs.Votes.{told_of}
 use Rattle.co_pairs.proofs.Votes.{told_voted}
-use Rattle.co_pairs.proofs.OneMore.{new_pairs}
-use Rattle.co_pairs.proofs.Mapped.{table-mapped}
+use Rattle.co_engine.proofs.Mapped.{mapped, table-mapped}
 use Rattle.co_mv.specs.Overwritten.{written_within}
 use Rattle.co_mv.specs.Reading.{all_noted}
 use Rattle.co_mv.specs.Recents.{has_key}
@@ -103,10 +99,10 @@ nothing_kept : IsKept None None None None
 nothing_kept = record { stamps_are = tt; sets_are = refl; votes_are = refl }
 
 -- ---- reading a state
-pub sets_alike : (e : MvEngine) (b : EngineState) (t : ℕ) → StandsFor e b → sets_at b t ≡ or_nothing (look e.undecided.sets t)
-sets_alike e b t s = sets_kept (look e.archive.snapshots.stamps t) (look e.undecided.sets t) (look b.active t) (look b.voted t) (s.each t)
+pub sets_alike : (e : MvEngine) (b : EngineState) (t : ℕ) → StandsFor e b → sets_at b t ≡ or_nothing (look e.undecided t)
+sets_alike e b t s = sets_kept (look e.archive.snapshots.stamps t) (look e.undecided t) (look b.active t) (look b.voted t) (s.each t)
 
-own_sets : (e : MvEngine) (b : EngineState) (t : ℕ) → StandsFor e b → look b.voted t ≡ None → sets_of (operations_of b t) ≡ or_nothing (look e.undecided.sets t)
+own_sets : (e : MvEngine) (b : EngineState) (t : ℕ) → StandsFor e b → look b.voted t ≡ None → sets_of (operations_of b t) ≡ or_nothing (look e.undecided t)
 own_sets e b t s none = ap (λ v. sets_in v (operations_of b t)) (sym none) ∙ sets_alike e b t s
 
 stamp_alike : (e : MvEngine) (b : EngineState) (t : ℕ) → StandsFor e b → stamp_of e.archive.snapshots t ≡ snapshot_of b t
@@ -175,9 +171,9 @@ voted_none n x os None k = refl
 voted_none n x os (Some v) k = absurd (let f : Some v.sets ≡ None = k.votes_are in cc)
 
 pub stale_alike : (e : MvEngine) (b : EngineState) (t : ℕ) → StandsFor e b → IsTrue (holds b.active t)
-    → least_key (written_within (stamp_of e.archive.snapshots t) (entries e.archive.chains) (or_nothing (look e.undecided.sets t)).reads) ≡ stale_key b t
+    → least_key (written_within (stamp_of e.archive.snapshots t) (entries e.archive.chains) (or_nothing (look e.undecided t)).reads) ≡ stale_key b t
 stale_alike e b t s h = least_same _ _ (λ k.
-    has-within n (entries e.archive.chains) (or_nothing (look e.undecided.sets t)).reads k (entries_sorted e.archive.chains)
+    has-within n (entries e.archive.chains) (or_nothing (look e.undecided t)).reads k (entries_sorted e.archive.chains)
     ∙ (λ i. reads_key (sym own i).reads k && (ap (λ o. written_since n (chain_in o)) (sym (get-entries e.archive.chains k)) ∙ since k) i)
     ∙ sym (has-stale b.installed n (operations_of b t) k (all_stamped (look e.archive.snapshots.stamps t) e.archive.snapshots.installs (look b.active t) (s.each t).stamps_are)))
   where
@@ -188,9 +184,9 @@ stale_alike e b t s h = least_same _ _ (λ k.
     at = active_stamp (look e.archive.snapshots.stamps t) (look b.active t) (s.each t).stamps_are h
 
     none : look b.voted t ≡ None
-    none = voted_none at.0 (look e.undecided.sets t) (look b.active t) (look b.voted t) (kept_along at.1 refl refl refl (s.each t))
+    none = voted_none at.0 (look e.undecided t) (look b.active t) (look b.voted t) (kept_along at.1 refl refl refl (s.each t))
 
-    own : sets_of (operations_of b t) ≡ or_nothing (look e.undecided.sets t)
+    own : sets_of (operations_of b t) ≡ or_nothing (look e.undecided t)
     own = own_sets e b t s none
 
     since : (k : List ℕ) → written_since (stamp_of e.archive.snapshots t) (chain_of e.archive.chains k) ≡ has_key (keys_since b.installed (stamp_of e.archive.snapshots t)) k
@@ -216,8 +212,8 @@ versions_alike e b key s = ap reverse (s.keeps.chains_are key ∙ ap (λ ns. fil
 
 -- ---- one operation more
 pub stands_with : (e e' : MvEngine) (b : EngineState) (t : ℕ) (op : Op) → StandsFor e b → IsTrue (may_operate b t) → e'.archive.snapshots ≡ entered e.archive.snapshots t → Keeps e'.archive b.base b.installed
-    → e'.undecided.sets ≡ grown_at e.undecided.sets t op → IsWhole e'.undecided → StandsFor e' (with_operation b t op)
-stands_with e e' b t op s h es k sets ix =
+    → e'.undecided ≡ grown_at e.undecided t op → StandsFor e' (with_operation b t op)
+stands_with e e' b t op s h es k sets =
     let none = not_voted b t h in
     let st = stamp_of e.archive.snapshots t in
     record {
@@ -225,7 +221,7 @@ stands_with e e' b t op s h es k sets ix =
       keeps = k;
       each = λ u.
           kept_along (sym (ap (λ x. look x.stamps u) es ∙ look-put e.archive.snapshots.stamps t st u))
-          (sym (ap (λ m. look m u) (sets ∙ put-without e.undecided.sets t (grown_by op (or_nothing (look e.undecided.sets t)))) ∙ look-put e.undecided.sets t (grown_by op (or_nothing (look e.undecided.sets t))) u))
+          (sym (ap (λ m. look m u) (sets ∙ put-without e.undecided t (grown_by op (or_nothing (look e.undecided t)))) ∙ look-put e.undecided t (grown_by op (or_nothing (look e.undecided t))) u))
           (sym (look-put b.active t (record { op = op; stamp = snapshot_of b t } ∷ operations_of b t) u)) (cond-same (eq_by_cmp nat_cmp u t) (look b.voted u))
           (kept_cond (eq_by_cmp nat_cmp u t)
           (λ y. record {
@@ -235,14 +231,7 @@ stands_with e e' b t op s h es k sets ix =
             votes_are = ap (option_map (λ v. v.sets)) (ap (look b.voted) (tied u t y) ∙ none);
           })
           (λ n. s.each u));
-      whole = ix;
     }
-
--- and exactly the new pairs
-pub pairs_alike : (e e' : MvEngine) (b : EngineState) (t : ℕ) (op : Op) (pairs : List Pair) → StandsFor e b → StandsFor e' (with_operation b t op) → e'.undecided.sets ≡ grown_at e.undecided.sets t op
-    → AreNew (sets_among e.undecided.sets) (sets_among (grown_at e.undecided.sets t op)) pairs → AreNewPairs b (with_operation b t op) pairs
-pairs_alike e e' b t op pairs s next sets new =
-    new_pairs b (with_operation b t op) (sets_among e.undecided.sets) (sets_among (grown_at e.undecided.sets t op)) pairs (λ u. sets_alike e b u s) (λ u. sets_alike e' (with_operation b t op) u next ∙ ap (λ m. sets_among m u) sets) new
 
 -- nobody is blocked
 pub not_blocked : (e : MvEngine) (b : EngineState) (t : ℕ) (op : Op) → StandsFor e b → None ≡ lock_blocker b t op
@@ -259,27 +248,25 @@ cast_one None x (Some os) vote coord count k h = absurd k.stamps_are
 cast_one (Some n) x (Some os) vote coord count k h = record { stamps_are = tt; sets_are = refl; votes_are = k.sets_are }
 
 pub stands_cast : (e e' : MvEngine) (b : EngineState) (t coord count : ℕ) → StandsFor e b → IsTrue (holds b.active t) → e'.archive.snapshots ≡ left e.archive.snapshots t → Keeps e'.archive b.base b.installed
-    → e'.undecided.sets ≡ e.undecided.sets → IsWhole e'.undecided → StandsFor e' (after_cast b t coord count)
-stands_cast e e' b t coord count s h es k sets ix = record {
+    → e'.undecided ≡ e.undecided → StandsFor e' (after_cast b t coord count)
+stands_cast e e' b t coord count s h es k sets = record {
   kind_is = s.kind_is;
   keeps = k;
   each = λ u.
-      kept_along (sym (left_each e e' t es u)) (cond-same (eq_by_cmp nat_cmp u t) (look e.undecided.sets u) ∙ ap (λ m. look m u) (sym sets)) (sym (look-without b.active t u)) (sym (look-put b.voted t _ u))
+      kept_along (sym (left_each e e' t es u)) (cond-same (eq_by_cmp nat_cmp u t) (look e.undecided u) ∙ ap (λ m. look m u) (sym sets)) (sym (look-without b.active t u)) (sym (look-put b.voted t _ u))
       (kept_cond (eq_by_cmp nat_cmp u t)
-      (λ y. kept_along refl (ap (look e.undecided.sets) (sym (tied u t y))) refl refl (cast_one (look e.archive.snapshots.stamps t) (look e.undecided.sets t) (look b.active t) (look b.voted t) coord count (s.each t) h))
+      (λ y. kept_along refl (ap (look e.undecided) (sym (tied u t y))) refl refl (cast_one (look e.archive.snapshots.stamps t) (look e.undecided t) (look b.active t) (look b.voted t) coord count (s.each t) h))
       (λ n. s.each u));
-  whole = ix;
 }
 
 pub stands_drop : (e e' : MvEngine) (b : EngineState) (t : ℕ) → StandsFor e b → e'.archive.snapshots ≡ left e.archive.snapshots t → Keeps e'.archive b.base b.installed
-    → e'.undecided.sets ≡ without e.undecided.sets t → IsWhole e'.undecided → StandsFor e' (after_drop b t)
-stands_drop e e' b t s es k sets ix = record {
+    → e'.undecided ≡ without e.undecided t → StandsFor e' (after_drop b t)
+stands_drop e e' b t s es k sets = record {
   kind_is = s.kind_is;
   keeps = k;
   each = λ u.
-      kept_along (sym (left_each e e' t es u)) (sym (ap (λ m. look m u) sets ∙ look-without e.undecided.sets t u)) (sym (look-without b.active t u)) (sym (look-without b.voted t u))
+      kept_along (sym (left_each e e' t es u)) (sym (ap (λ m. look m u) sets ∙ look-without e.undecided t u)) (sym (look-without b.active t u)) (sym (look-without b.voted t u))
       (kept_cond (eq_by_cmp nat_cmp u t) (λ y. nothing_kept) (λ n. s.each u));
-  whole = ix;
 }
 
 voted_stamp : (st : Option ℕ) (x : Option Sets) (os : Option (List Operation)) (vote : Vote) → IsKept st x os (Some vote) → st ≡ None
@@ -290,36 +277,35 @@ voted_active : (x : Option Sets) (os : Option (List Operation)) (vote : Option V
 voted_active x None vote k = refl
 voted_active x (Some os) vote k = absurd k.stamps_are
 
-install_at : (e e' : MvEngine) (b : EngineState) (t : ℕ) (own : Sets) (o : Option Vote) → StandsFor e b → is_some o ≡ true → look b.voted t ≡ o → look e.undecided.sets t ≡ Some own
-    → e'.archive.snapshots ≡ grown e.archive.snapshots → Keeps e'.archive b.base (record { txn = t; writes = own.writes } ∷ b.installed) → e'.undecided.sets ≡ without e.undecided.sets t → IsWhole e'.undecided → StandsFor e' (install_vote b t o)
-install_at e e' b t own None s h f is es k sets ix = absurd (true≢false (sym h))
-install_at e e' b t own (Some vote) s h f is es k sets ix =
-    let kt : IsKept (look e.archive.snapshots.stamps t) (look e.undecided.sets t) (look b.active t) (Some vote) = kept_along refl refl refl f (s.each t) in
-    let no_stamp : look e.archive.snapshots.stamps t ≡ None = voted_stamp (look e.archive.snapshots.stamps t) (look e.undecided.sets t) (look b.active t) vote kt in
+install_at : (e e' : MvEngine) (b : EngineState) (t : ℕ) (own : Sets) (o : Option Vote) → StandsFor e b → is_some o ≡ true → look b.voted t ≡ o → look e.undecided t ≡ Some own
+    → e'.archive.snapshots ≡ grown e.archive.snapshots → Keeps e'.archive b.base (record { txn = t; writes = own.writes } ∷ b.installed) → e'.undecided ≡ without e.undecided t → StandsFor e' (install_vote b t o)
+install_at e e' b t own None s h f is es k sets = absurd (true≢false (sym h))
+install_at e e' b t own (Some vote) s h f is es k sets =
+    let kt : IsKept (look e.archive.snapshots.stamps t) (look e.undecided t) (look b.active t) (Some vote) = kept_along refl refl refl f (s.each t) in
+    let no_stamp : look e.archive.snapshots.stamps t ≡ None = voted_stamp (look e.archive.snapshots.stamps t) (look e.undecided t) (look b.active t) vote kt in
     let kn : IsKept None (Some own) (look b.active t) (Some vote) = kept_along no_stamp is refl refl kt in
     let same : vote.sets ≡ own = (let g : Some vote.sets ≡ Some own = kn.votes_are in cc) in
     record {
       kind_is = s.kind_is;
       keeps = subst (λ x. Keeps e'.archive b.base (record { txn = t; writes = x.writes } ∷ b.installed)) (sym same) k;
       each = λ u.
-          kept_along (cond-same (eq_by_cmp nat_cmp u t) (look e.archive.snapshots.stamps u) ∙ ap (λ x. look x.stamps u) (sym es)) (sym (ap (λ m. look m u) sets ∙ look-without e.undecided.sets t u))
+          kept_along (cond-same (eq_by_cmp nat_cmp u t) (look e.archive.snapshots.stamps u) ∙ ap (λ x. look x.stamps u) (sym es)) (sym (ap (λ m. look m u) sets ∙ look-without e.undecided t u))
           (cond-same (eq_by_cmp nat_cmp u t) (look b.active u)) (sym (look-without b.voted t u))
           (kept_cond (eq_by_cmp nat_cmp u t)
           (λ y. kept_along (sym (ap (look e.archive.snapshots.stamps) (tied u t y) ∙ no_stamp)) refl (sym (ap (look b.active) (tied u t y) ∙ voted_active (Some own) (look b.active t) (Some vote) kn)) refl nothing_kept)
           (λ n. s.each u));
-      whole = ix;
     }
 
-pub stands_install : (e e' : MvEngine) (b : EngineState) (t : ℕ) (own : Sets) → StandsFor e b → IsTrue (holds b.voted t) → look e.undecided.sets t ≡ Some own
-    → e'.archive.snapshots ≡ grown e.archive.snapshots → Keeps e'.archive b.base (record { txn = t; writes = own.writes } ∷ b.installed) → e'.undecided.sets ≡ without e.undecided.sets t → IsWhole e'.undecided → StandsFor e' (after_install b t)
-stands_install e e' b t own s h is es k sets ix = install_at e e' b t own (look b.voted t) s h refl is es k sets ix
+pub stands_install : (e e' : MvEngine) (b : EngineState) (t : ℕ) (own : Sets) → StandsFor e b → IsTrue (holds b.voted t) → look e.undecided t ≡ Some own
+    → e'.archive.snapshots ≡ grown e.archive.snapshots → Keeps e'.archive b.base (record { txn = t; writes = own.writes } ∷ b.installed) → e'.undecided ≡ without e.undecided t → StandsFor e' (after_install b t)
+stands_install e e' b t own s h is es k sets = install_at e e' b t own (look b.voted t) s h refl is es k sets
 
 absent_vote : (st : Option ℕ) (os : Option (List Operation)) (vote : Option Vote) → IsKept st None os vote → is_some vote ≡ false
 absent_vote st os None k = refl
 absent_vote None os (Some vote) k = absurd (let f : Some vote.sets ≡ None = k.votes_are in cc)
 absent_vote (Some n) os (Some vote) k = absurd (let f : Some vote.sets ≡ None = k.votes_are in cc)
 
-pub install_absent : (e : MvEngine) (b : EngineState) (t : ℕ) {A : Type 0} → StandsFor e b → IsTrue (holds b.voted t) → look e.undecided.sets t ≡ None → A
+pub install_absent : (e : MvEngine) (b : EngineState) (t : ℕ) {A : Type 0} → StandsFor e b → IsTrue (holds b.voted t) → look e.undecided t ≡ None → A
 install_absent e b t s h is = absurd (true≢false (sym h ∙ absent_vote (look e.archive.snapshots.stamps t) (look b.active t) (look b.voted t) (kept_along refl is refl refl (s.each t))))
 
 absent_active : (st : Option ℕ) (os : Option (List Operation)) (vote : Option Vote) → IsKept st None os vote → is_some os ≡ false
@@ -327,7 +313,7 @@ absent_active st None vote k = refl
 absent_active None (Some os) vote k = absurd k.stamps_are
 absent_active (Some n) (Some os) vote k = absurd (let f : Some (sets_of os) ≡ None = k.sets_are in cc)
 
-pub stale_absent : (e : MvEngine) (b : EngineState) (t : ℕ) {A : Type 0} → StandsFor e b → IsTrue (holds b.active t) → look e.undecided.sets t ≡ None → A
+pub stale_absent : (e : MvEngine) (b : EngineState) (t : ℕ) {A : Type 0} → StandsFor e b → IsTrue (holds b.active t) → look e.undecided t ≡ None → A
 stale_absent e b t s h is = absurd (true≢false (sym h ∙ absent_active (look e.archive.snapshots.stamps t) (look b.active t) (look b.voted t) (kept_along refl is refl refl (s.each t))))
 
 -- ---- the start
@@ -335,11 +321,10 @@ prepared_kept : (vote : Option Vote) → IsKept None (option_map (λ v. v.sets) 
 prepared_kept None = nothing_kept
 prepared_kept (Some vote) = record { stamps_are = tt; sets_are = refl; votes_are = refl }
 
-pub stands_restored : (e : MvEngine) (kind : Kind) (records : Records) (ps : List Prepared) → Mv ≡ kind → Keeps e.archive records [] → e.archive.snapshots.stamps ≡ no_entries → e.undecided.sets ≡ told_of (λ p. p.sets) ps → IsWhole e.undecided
+pub stands_restored : (e : MvEngine) (kind : Kind) (records : Records) (ps : List Prepared) → Mv ≡ kind → Keeps e.archive records [] → e.archive.snapshots.stamps ≡ no_entries → e.undecided ≡ told_of (λ p. p.sets) ps
     → StandsFor e (restored kind records (votes_of ps))
-stands_restored e kind records ps is k none sets ix = record {
+stands_restored e kind records ps is k none sets = record {
   kind_is = is;
   keeps = k;
   each = λ u. kept_along (sym (ap (λ m. look m u) none ∙ get-empty nat_cmp u)) (sym (ap (λ m. look m u) sets ∙ told_voted (λ p. p.sets) (λ v. v.sets) (λ p. refl) ps u)) (sym (get-empty nat_cmp u)) refl (prepared_kept (look (votes_of ps) u));
-  whole = ix;
 }

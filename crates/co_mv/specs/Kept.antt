@@ -9,8 +9,7 @@ use Rattle.co_mv.specs.declared.archive.Archive.{Archive}
 use Rattle.co_mv.specs.declared.mv_engine.MvEngine.{MvEngine}
 use Rattle.co_mv.specs.declared.version.Version.{Version}
 use Rattle.co_mv.specs.Chains.{Chains, chain_of}
-use Rattle.co_pairs.specs.NewPairs.{or_nothing}
-use Rattle.co_index.specs.Undecided.{IsWhole}
+use Rattle.co_engine.specs.Undecided.{or_nothing}
 use Rattle.co_mv.specs.Reading.{all_noted, laid_within}
 use Rattle.co_mv.specs.Recents.{Recents, keys_at, has_key}
 use Rattle.co_base.specs.Span.{Span, span_has}
@@ -121,12 +120,11 @@ pub record IsKept (stamp : Option ℕ) (sets : Option Sets) (os : Option (List O
 pub record StandsFor (e : MvEngine) (b : EngineState) : Type 0 where
   pub kind_is : Mv ≡ b.kind
   pub keeps : Keeps e.archive b.base b.installed
-  pub each : (t : ℕ) → IsKept (look e.archive.snapshots.stamps t) (look e.undecided.sets t) (look b.active t) (look b.voted t)
-  pub whole : IsWhole e.undecided
+  pub each : (t : ℕ) → IsKept (look e.archive.snapshots.stamps t) (look e.undecided t) (look b.active t) (look b.voted t)
 
 -- what an undecided transaction wrote; nothing of an absent one
 abbrev pub own_writes : MvEngine → ℕ → List Written
-own_writes e t = (or_nothing (look e.undecided.sets t)).writes
+own_writes e t = (or_nothing (look e.undecided t)).writes
 
 -- the records of a range that the next operation of a transaction sees
 abbrev pub visible_within : MvEngine → ℕ → Span → Records

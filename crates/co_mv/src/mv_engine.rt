@@ -1,24 +1,24 @@
 //! The engine.
-ghost use Rattle.std.specs.Prelude.{◌≡◌, ◌<◌, length, map, reverse, slice_get, Some, IsTrue, IfOk, OnOk, OnErr, option_copied};
+ghost use Rattle.std.specs.Prelude.{◌≡◌, ◌<◌, length, map, reverse, slice_get, Some, IsTrue, IfOk, OnOk, option_copied};
 ghost use Rattle.std.specs.FinMap.{get};
 ghost use Rattle.co_base.specs.declared.head.Kind.TheVariants.{Mv};
-ghost use Rattle.co_engine.specs.Calls.{may_operate, seen_of, Appends, AppendsNewPairs};
+ghost use Rattle.co_engine.specs.Calls.{may_operate, seen_of};
 ghost use Rattle.co_mv.specs.Chains.{chain_of};
 ghost use Rattle.co_mv.specs.Kept.{StandsFor, stamp_of, own_writes, visible_within};
 ghost use Rattle.co_mv.specs.Versions.{kept_versions, seen_value};
 ghost use Rattle.co_serial.specs.Records.{Records, all_rows, with_changes};
 ghost use Rattle.co_state.specs.declared.engine_state.EngineState.{EngineState};
 ghost use Rattle.co_state.specs.Effects.{after_operation, with_operation};
-ghost use Rattle.co_state.specs.Conflicts.{AreNewPairs};
 ghost use Rattle.co_state.specs.ReadRule.{operation_reply};
 
 use crate::archive::Archive;
 use crate::reading::{all_records, lay_within, records_within, seen_value};
 use crate::stale::least_written;
 use co_base::{Key, Kind, Op, Range, Reply, Rows, Txn, Value, Writes, Written};
-use co_engine::{Dump, Engine, Seen, append, copy_value, writing};
-use co_index::{Undecided, value_after};
-use co_pairs::{Pairs, Prepared, Sets};
+use co_engine::{Dump, Engine, Seen, copy_value, grow, prepared_sets, writing};
+use co_index::value_after;
+use co_pairs::{Prepared, Sets};
+use co_state::Table;
 use std::alloc::{AllocError, Global};
 
 /// An engine that keeps versions. Each transaction reads the records as they were at its first operation, with
@@ -28,15 +28,8 @@ use std::alloc::{AllocError, Global};
 #[derive(Drop)]
 pub struct MvEngine {
     archive: Archive,
-    undecided: Undecided,
+    undecided: Table<Sets>,
     nothing: Sets,
-}
-
-/// What an operation came to, with the pairs that it made.
-#[derive(Drop)]
-struct Operated {
-    seen: Seen,
-    pairs: Pairs,
 }
 
 impl MvEngine {
@@ -98,46 +91,22 @@ impl MvEngine {
         }
     }
 
-    /// Adds an operation to its transaction and gives the pairs that it makes.
-    fn add(&mut self, alloc: Global, t: Txn, op: &Op) -> Result<Pairs, AllocError>
-        ensures state { (b : EngineState) → StandsFor self.old b → IsTrue (may_operate b t) → OnOk result (StandsFor self.new (with_operation b t op.now)) }
-        ensures pairs { (b : EngineState) → StandsFor self.old b → IsTrue (may_operate b t) → IfOk result (AreNewPairs b (with_operation b t op.now)) }
+    /// Adds an operation to its transaction.
+    fn add(&mut self, alloc: Global, t: Txn, op: &Op) -> Result<(), AllocError>
+        ensures { (b : EngineState) → StandsFor self.old b → IsTrue (may_operate b t) → OnOk result (StandsFor self.new (with_operation b t op.now)) }
     {
-        let pairs = self.undecided.add(alloc, t, op)?;
-        self.archive.enter(alloc, t)?;
-        Ok(pairs)
+        grow(alloc, &mut self.undecided, t, op)?;
+        self.archive.enter(alloc, t)
     }
 
     /// Does an operation.
-    fn operate(&mut self, alloc: Global, t: Txn, op: &Op) -> Result<Operated, AllocError>
-        ensures seen { (b : EngineState) → StandsFor self.old b → IsTrue (may_operate b t) → IfOk result (λ operated. operated.seen ≡ seen_of b t op.now) }
+    fn operate(&mut self, alloc: Global, t: Txn, op: &Op) -> Result<Seen, AllocError>
+        ensures seen { (b : EngineState) → StandsFor self.old b → IsTrue (may_operate b t) → IfOk result (λ seen. seen ≡ seen_of b t op.now) }
         ensures state { (b : EngineState) → StandsFor self.old b → IsTrue (may_operate b t) → OnOk result (StandsFor self.new (after_operation b t op.now)) }
-        ensures pairs { (b : EngineState) → StandsFor self.old b → IsTrue (may_operate b t) → IfOk result (λ operated. AreNewPairs b (after_operation b t op.now) operated.pairs) }
     {
         let reply = self.reply(alloc, t, op)?;
-        let pairs = self.add(alloc, t, op)?;
-        Ok(Operated {
-            seen: Seen::Answer(reply),
-            pairs,
-        })
-    }
-
-    /// Does an operation, and adds the pairs that it made.
-    fn serve(
-        &mut self,
-        alloc: Global,
-        t: Txn,
-        op: Op,
-        pairs: &mut Pairs,
-    ) -> Result<Seen, AllocError>
-        ensures seen { (b : EngineState) → StandsFor self.old b → IsTrue (may_operate b t) → IfOk result (λ seen. seen ≡ seen_of b t op) }
-        ensures state { (b : EngineState) → StandsFor self.old b → IsTrue (may_operate b t) → OnOk result (StandsFor self.new (after_operation b t op)) }
-        ensures pairs { (b : EngineState) → StandsFor self.old b → IsTrue (may_operate b t) → OnOk result (AppendsNewPairs b (after_operation b t op) pairs.old pairs.new) }
-        ensures kept { OnErr result (Appends pairs.old pairs.new) }
-    {
-        let operated = self.operate(alloc, t, &op)?;
-        append(pairs, &operated.pairs)?;
-        Ok(operated.seen)
+        self.add(alloc, t, op)?;
+        Ok(Seen::Answer(reply))
     }
 }
 
@@ -155,31 +124,19 @@ impl Engine for MvEngine {
         let _ = kind;
         Ok(MvEngine {
             archive: Archive::of_rows(alloc, rows)?,
-            undecided: Undecided::of_prepared(alloc, voted)?,
+            undecided: prepared_sets(alloc, voted)?,
             nothing: Sets::new(alloc),
         })
     }
 
-    fn read(
-        &mut self,
-        alloc: Global,
-        t: Txn,
-        key: &Key,
-        pairs: &mut Pairs,
-    ) -> Result<Seen, AllocError> {
+    fn read(&mut self, alloc: Global, t: Txn, key: &Key) -> Result<Seen, AllocError> {
         let op = Op::Read(key.copy()?);
-        self.serve(alloc, t, op, pairs)
+        self.operate(alloc, t, &op)
     }
 
-    fn scan(
-        &mut self,
-        alloc: Global,
-        t: Txn,
-        range: &Range,
-        pairs: &mut Pairs,
-    ) -> Result<Seen, AllocError> {
+    fn scan(&mut self, alloc: Global, t: Txn, range: &Range) -> Result<Seen, AllocError> {
         let op = Op::Scan(range.copy()?);
-        self.serve(alloc, t, op, pairs)
+        self.operate(alloc, t, &op)
     }
 
     fn write(
@@ -188,10 +145,9 @@ impl Engine for MvEngine {
         t: Txn,
         key: &Key,
         value: Option<&Value>,
-        pairs: &mut Pairs,
     ) -> Result<Seen, AllocError> {
         let op = writing(key, value)?;
-        self.serve(alloc, t, op, pairs)
+        self.operate(alloc, t, &op)
     }
 
     fn sets(&self, t: Txn) -> &Sets {
@@ -217,7 +173,7 @@ impl Engine for MvEngine {
     }
 
     fn install(&mut self, alloc: Global, t: Txn) -> Result<(), AllocError> {
-        match self.undecided.take(t) {
+        match self.undecided.remove(t) {
             Some(sets) => self.archive.install(alloc, sets.writes()),
             None => Ok(()),
         }
@@ -225,7 +181,7 @@ impl Engine for MvEngine {
 
     fn drop_txn(&mut self, t: Txn) {
         self.archive.leave(t);
-        let _ = self.undecided.take(t);
+        let _ = self.undecided.remove(t);
     }
 
     fn dump(&self, alloc: Global) -> Result<Dump, AllocError> {

@@ -6,7 +6,7 @@ use Rattle.co_state.specs.declared.engine_state.Sets.{Sets}
 use Rattle.co_state.specs.declared.engine_state.Vote.{Vote}
 use Rattle.co_state.specs.Changes.{sets_of}
 use Rattle.co_state.specs.EngineState.{operations_in, sets_in}
-use Rattle.co_pairs.specs.NewPairs.{or_nothing}
+use Rattle.co_engine.specs.Undecided.{or_nothing}
 use Rattle.co_occ.specs.declared.reads.Reads.{Reads}
 use Rattle.co_occ.specs.Kept.{or_unread, reads_of}
 use Rattle.co_occ.specs.Stands.{IsKept, active_sets, voted_sets}

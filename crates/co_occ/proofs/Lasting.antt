@@ -10,7 +10,7 @@ use Rattle.co_base.specs.Span.{span_has}
 use Rattle.co_base.specs.declared.written.Written.{Written}
 use Rattle.co_state.specs.Keys.{same_key, writes_key, least_key}
 use Rattle.co_index.specs.Listed.{has_key, keys_that}
-use Rattle.co_pairs.specs.NewPairs.{passes}
+use Rattle.co_pairs.proofs.Picking.{passes}
 use Rattle.co_index.proofs.Keys.{ties, tied, swapped}
 use Rattle.co_index.proofs.Least.{least_same}
 use Rattle.co_index.proofs.Listed.{has-append, has-filter, has-that-within}

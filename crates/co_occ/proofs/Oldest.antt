@@ -17,9 +17,8 @@ use Rattle.co_state.specs.Changes.{span_read}
 use Rattle.co_state.specs.EngineState.{operations_in}
 use Rattle.co_state.specs.Table.{Table, look, put, without, lesser}
 use Rattle.co_state.proofs.Tables.{look-put, look-without, put-without, same_table}
-use Rattle.co_pairs.specs.NewPairs.{mapped}
 use Rattle.co_pairs.proofs.Picking.{tied}
-use Rattle.co_pairs.proofs.Mapped.{table-mapped}
+use Rattle.co_engine.proofs.Mapped.{mapped, table-mapped}
 use Rattle.co_occ.specs.declared.reads.Reads.{Reads}
 use Rattle.co_occ.specs.Kept.{with_read, reads_of, oldest_kept}
 use Rattle.co_occ.specs.Old.{with_stamp, oldest_stamp, oldest_of, writes_after}

@@ -12,8 +12,7 @@ use Rattle.co_state.specs.declared.engine_state.Vote.{Vote}
 use Rattle.co_state.specs.Changes.{sets_of}
 use Rattle.co_state.specs.EngineState.{installed_records}
 use Rattle.co_state.specs.Table.{look}
-use Rattle.co_pairs.specs.NewPairs.{or_nothing}
-use Rattle.co_index.specs.Undecided.{IsWhole}
+use Rattle.co_engine.specs.Undecided.{or_nothing}
 use Rattle.co_occ.specs.declared.engine.OccEngine.{OccEngine}
 use Rattle.co_occ.specs.declared.reads.Read.{Read}
 use Rattle.co_occ.specs.declared.reads.Reads.{Reads}
@@ -42,8 +41,7 @@ pub record KeepsState (o : OccEngine) (b : EngineState) : Type 0 where
   pub kind_is : Occ ≡ b.kind
   pub records_are : o.records ≡ installed_records b
   pub count_is : o.installs ≡ length b.installed
-  pub each : (t : ℕ) → IsKept (look o.reads t) (look o.undecided.sets t) (look b.active t) (look b.voted t)
-  pub whole : IsWhole o.undecided
+  pub each : (t : ℕ) → IsKept (look o.reads t) (look o.undecided t) (look b.active t) (look b.voted t)
 
 pub record StandsFor (o : OccEngine) (b : EngineState) : Type 0 where
   pub keeps : KeepsState o b
@@ -69,7 +67,7 @@ with_needed o lasts = record o { recent = recent_needed o; lasts = lasts }
 
 -- what the next read of a transaction sees
 abbrev pub own_writes : OccEngine → ℕ → List Written
-own_writes o t = (or_nothing (look o.undecided.sets t)).writes
+own_writes o t = (or_nothing (look o.undecided t)).writes
 
 abbrev pub own_records : OccEngine → ℕ → Records
 own_records o t = with_changes o.records (own_writes o t)

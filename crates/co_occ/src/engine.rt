@@ -4,7 +4,6 @@ ghost use Rattle.std.specs.FinMap.{get};
 ghost use Rattle.co_base.specs.declared.head.Kind.TheVariants.{Occ};
 ghost use Rattle.co_serial.specs.Records.{rows_within};
 ghost use Rattle.co_state.specs.declared.engine_state.EngineState.{EngineState};
-ghost use Rattle.co_state.specs.Conflicts.{AreNewPairs};
 ghost use Rattle.co_state.specs.Effects.{with_operation};
 ghost use Rattle.co_engine.specs.Calls.{may_operate};
 ghost use Rattle.co_occ.specs.Last.{AreLast};
@@ -19,10 +18,10 @@ use crate::reads::Read;
 use crate::register::Register;
 use crate::validation::stale_key;
 use co_base::{Key, Kind, Op, Range, Reply, Rows, Txn, Value, Writes, Written};
-use co_engine::{Dump, Engine, Seen, append, copy_value, writing};
-use co_index::{KeyMap, Undecided};
-use co_pairs::{Pairs, Prepared, Sets};
-use co_state::range_read;
+use co_engine::{Dump, Engine, Seen, copy_value, grow, prepared_sets, writing};
+use co_index::KeyMap;
+use co_pairs::{Prepared, Sets};
+use co_state::{Table, range_read};
 use std::alloc::{AllocError, Global};
 
 /// An engine of the kind `Occ`: writes are private, no operation is blocked, and whether a read was
@@ -37,7 +36,7 @@ pub struct OccEngine {
     recent: OldWrites,
     lasts: KeyMap<u64>,
     reads: Register,
-    undecided: Undecided,
+    undecided: Table<Sets>,
     nothing: Sets,
 }
 
@@ -105,15 +104,13 @@ impl OccEngine {
         }
     }
 
-    /// Adds an operation to its transaction and gives the pairs that it makes.
-    fn add(&mut self, alloc: Global, t: Txn, op: &Op) -> Result<Pairs, AllocError>
-        ensures state { (b : EngineState) → StandsFor self.old b → IsTrue (may_operate b t) → OnOk result (StandsFor self.new (with_operation b t op.now)) }
-        ensures pairs { (b : EngineState) → StandsFor self.old b → IsTrue (may_operate b t) → IfOk result (AreNewPairs b (with_operation b t op.now)) }
+    /// Adds an operation to its transaction.
+    fn add(&mut self, alloc: Global, t: Txn, op: &Op) -> Result<(), AllocError>
+        ensures { (b : EngineState) → StandsFor self.old b → IsTrue (may_operate b t) → OnOk result (StandsFor self.new (with_operation b t op.now)) }
     {
-        let pairs = self.undecided.add(alloc, t, op)?;
+        grow(alloc, &mut self.undecided, t, op)?;
         let range = range_read(op)?;
-        self.reads.add(alloc, t, range, self.installs)?;
-        Ok(pairs)
+        self.reads.add(alloc, t, range, self.installs)
     }
 
     /// How many of the newest installs came after the oldest read of an active transaction.
@@ -154,36 +151,22 @@ impl Engine for OccEngine {
             recent: OldWrites::new(alloc),
             lasts: KeyMap::new(alloc),
             reads: Register::new(alloc),
-            undecided: Undecided::of_prepared(alloc, voted)?,
+            undecided: prepared_sets(alloc, voted)?,
             nothing: Sets::new(alloc),
         })
     }
 
-    fn read(
-        &mut self,
-        alloc: Global,
-        t: Txn,
-        key: &Key,
-        pairs: &mut Pairs,
-    ) -> Result<Seen, AllocError> {
+    fn read(&mut self, alloc: Global, t: Txn, key: &Key) -> Result<Seen, AllocError> {
         let value = copy_value(self.value(t, key))?;
         let op = Op::Read(key.copy()?);
-        let made = self.add(alloc, t, &op)?;
-        append(pairs, &made)?;
+        self.add(alloc, t, &op)?;
         Ok(Seen::Answer(Reply::Got(value)))
     }
 
-    fn scan(
-        &mut self,
-        alloc: Global,
-        t: Txn,
-        range: &Range,
-        pairs: &mut Pairs,
-    ) -> Result<Seen, AllocError> {
+    fn scan(&mut self, alloc: Global, t: Txn, range: &Range) -> Result<Seen, AllocError> {
         let rows = self.rows(alloc, t, range)?;
         let op = Op::Scan(range.copy()?);
-        let made = self.add(alloc, t, &op)?;
-        append(pairs, &made)?;
+        self.add(alloc, t, &op)?;
         Ok(Seen::Answer(Reply::Rows(rows)))
     }
 
@@ -193,11 +176,9 @@ impl Engine for OccEngine {
         t: Txn,
         key: &Key,
         value: Option<&Value>,
-        pairs: &mut Pairs,
     ) -> Result<Seen, AllocError> {
         let op = writing(key, value)?;
-        let made = self.add(alloc, t, &op)?;
-        append(pairs, &made)?;
+        self.add(alloc, t, &op)?;
         Ok(Seen::Answer(Reply::Done))
     }
 
@@ -218,7 +199,7 @@ impl Engine for OccEngine {
     }
 
     fn install(&mut self, alloc: Global, t: Txn) -> Result<(), AllocError> {
-        let Some(sets) = self.undecided.take(t) else {
+        let Some(sets) = self.undecided.remove(t) else {
             return Ok(());
         };
         let writes = sets.writes;
@@ -232,7 +213,7 @@ impl Engine for OccEngine {
 
     fn drop_txn(&mut self, t: Txn) {
         let _ = self.reads.take(t);
-        let _ = self.undecided.take(t);
+        let _ = self.undecided.remove(t);
         self.forget_old();
     }
 

@@ -1,12 +1,12 @@
 -- Answers to a text.
-use Rattle.std.proofs.Common.{◌≡◌, ℕ, List, reverse, Option, None, Some, Result, Ok, Err, ap, sym, subst}
+use Rattle.std.proofs.Common.{◌≡◌, ℕ, List, reverse, Some, Result, Ok, Err, subst}
 use Rattle.co_check.specs.Checked.{IsEnding}
 use Rattle.co_check.specs.Kept.{IsKept}
 use Rattle.co_check.specs.declared.client.Committed.{Committed}
 use Rattle.co_check.specs.declared.verdict.Ending.{Ending}
 use Rattle.co_check.specs.declared.writing.VerdictFault.{VerdictFault}
 use Rattle.co_check.specs.declared.writing.VerdictFault.TheVariants as fault
-use Rattle.co_order.specs.Answer.{IsAnswer, IsAnswered, IsOrdered}
+use Rattle.co_order.specs.Answer.{IsAnswered, IsOrdered}
 use Rattle.co_order.specs.declared.answer.Answer.{Answer}
 
 pub answered : (text : List ℕ) (ending : Ending) (h : IsEnding text ending) (result : Result Answer VerdictFault) → IsAnswered (reverse h.account.committed) result → IsOrdered text result

@@ -1,5 +1,5 @@
 -- What an answer claims of the committed transactions, and of a text that tells them.
-use Rattle.std.specs.Prelude.{ℕ, ◌≡◌, true, List, [], reverse, Option, None, Some, Result, Ok, Err}
+use Rattle.std.specs.Prelude.{ℕ, ◌≡◌, true, List, [], reverse, Some, Result, Ok, Err}
 use Rattle.co_message.specs.declared.item.Item.{Item}
 use Rattle.co_check.specs.Account.{Account}
 use Rattle.co_check.specs.Checked.{StandsBehind, IsTextFault, IsLineFault}

@@ -1,10 +1,21 @@
 //! Building refutations.
-use crate::digest::{Source, value_told};
+use crate::digest::Read;
+use crate::forced::Why;
 use crate::lists::number_at;
-use crate::web::{Web, Why};
+use crate::replies::value_told;
+use crate::source::Source;
+use crate::web::Web;
 use co_check::Committed;
 use co_order_check::{Fact, Path, Reading, RecordId, Step};
 use std::alloc::{AllocError, Global};
+
+/// The transaction that left what was read, where that is the one source.
+fn source_of_one(read: &Read) -> Option<usize> {
+    match read.source {
+        Source::One(source) => Some(source),
+        _ => None,
+    }
+}
 
 /// A refutation that is being built, of a web of these transactions.
 #[derive(Drop)]
@@ -34,24 +45,20 @@ impl Build<'_, '_> {
         }
     }
 
-    /// A read.
-    fn reading(&mut self, read: usize) -> Result<Option<Reading>, AllocError> {
+    /// A read, with what it was told.
+    fn reading(&mut self, read: &Read) -> Result<Option<Reading>, AllocError> {
         self.cited = self.cited.saturating_add(1);
-        let found = match self.web.digest.read_at(read) {
-            Some(found) => found,
-            None => return Ok(None),
-        };
-        let id = match self.record(found.record)? {
+        let id = match self.record(read.record)? {
             Some(id) => id,
             None => return Ok(None),
         };
-        let reader = self.place(found.txn);
-        let source = match found.source {
-            Source::One(source) => Some(self.place(source)),
-            _ => None,
+        let reader = self.place(read.txn);
+        let source = match source_of_one(read) {
+            Some(source) => Some(self.place(source)),
+            None => None,
         };
         let value = match self.history.get(reader) {
-            Some(committed) => match committed.told.oldest_first().get(found.place) {
+            Some(committed) => match committed.told.oldest_first().get(read.place) {
                 Some(operation) => value_told(&id, operation)?,
                 None => None,
             },
@@ -60,7 +67,7 @@ impl Build<'_, '_> {
         Ok(Some(Reading {
             record: id,
             reader,
-            place: found.place,
+            place: read.place,
             value,
             source,
         }))
@@ -71,11 +78,11 @@ impl Build<'_, '_> {
         &mut self,
         record: usize,
         from: Option<usize>,
-        reads: &[usize],
+        reads: &[Read],
     ) -> Result<Option<Path>, AllocError> {
         let mut readings = Vec::new(self.alloc);
         for read in reads.iter().rev() {
-            match self.reading(*read)? {
+            match self.reading(read)? {
                 Some(reading) => readings.push(reading)?,
                 None => return Ok(None),
             }
@@ -94,11 +101,11 @@ impl Build<'_, '_> {
         }
     }
 
-    /// The path from the beginning of its block to a read, or to a version where there is no read.
+    /// The path from the beginning of its block to a read, or to the version of a transaction where there is no read.
     pub(crate) fn path_to(
         &mut self,
         record: usize,
-        read: Option<usize>,
+        read: Option<Read>,
         txn: usize,
     ) -> Result<Option<Path>, AllocError> {
         let mut reads = Vec::new(self.alloc);
@@ -113,11 +120,7 @@ impl Build<'_, '_> {
                 Some(read) => read,
                 None => break,
             };
-            let found = match self.web.digest.read_at(read) {
-                Some(found) => found,
-                None => break,
-            };
-            match found.source {
+            match read.source {
                 Source::Many => break,
                 Source::Start => {
                     reads.push(read)?;
@@ -145,71 +148,37 @@ impl Build<'_, '_> {
     /// Concludes an edge by two lines.
     pub(crate) fn two_lines(
         &mut self,
-        why: Why,
+        one: usize,
         other: usize,
+        why: Why,
     ) -> Result<Option<usize>, AllocError> {
-        let web = self.web;
         match why {
-            Why::From(read) => {
-                let found = match web.digest.read_at(read) {
-                    Some(found) => found,
-                    None => return Ok(None),
-                };
-                let source = match found.source {
-                    Source::One(source) => Some(source),
-                    _ => None,
-                };
-                match self.path(found.record, source, &[read])? {
-                    Some(path) => Ok(Some(self.conclude(Step::Along(path))?)),
-                    None => Ok(None),
-                }
-            }
+            Why::From(read) => self.along(&read),
             Why::Next(read, also) => {
-                let found = match web.digest.read_at(read) {
-                    Some(found) => found,
-                    None => return Ok(None),
-                };
-                let source = match found.source {
-                    Source::One(source) => Some(source),
-                    _ => None,
-                };
-                let known = match source {
+                let known = match source_of_one(&read) {
                     None => 0,
-                    Some(_) => match self.path(found.record, source, &[also])? {
-                        Some(path) => self.conclude(Step::Along(path))?,
+                    Some(_) => match self.along(&also)? {
+                        Some(known) => known,
                         None => return Ok(None),
                     },
                 };
-                match self.path(found.record, source, &[read])? {
-                    Some(path) => {
-                        let place = self.place(other);
-                        let step = Step::Behind { path, place, known };
-                        Ok(Some(self.conclude(step)?))
-                    }
+                match self.path(read.record, source_of_one(&read), &[read])? {
+                    Some(path) => Ok(Some(self.behind(path, other, known)?)),
                     None => Ok(None),
                 }
             }
-            Why::First { record, read, left } => {
-                let txn = match left {
-                    Some(left) => match web.digest.left_at(left) {
-                        Some(left) => left.txn,
-                        None => return Ok(None),
-                    },
-                    None => 0,
-                };
-                match self.path_to(record, read, txn)? {
-                    Some(path) => {
-                        let place = self.place(other);
-                        let step = Step::Behind {
-                            path,
-                            place,
-                            known: 0,
-                        };
-                        Ok(Some(self.conclude(step)?))
-                    }
-                    None => Ok(None),
-                }
-            }
+            Why::First { record, read } => match self.path_to(record, read, one)? {
+                Some(path) => Ok(Some(self.behind(path, other, 0)?)),
+                None => Ok(None),
+            },
+        }
+    }
+
+    /// Concludes that a transaction stands behind the one whose version it read.
+    fn along(&mut self, read: &Read) -> Result<Option<usize>, AllocError> {
+        match self.path(read.record, source_of_one(read), &[*read])? {
+            Some(path) => Ok(Some(self.conclude(Step::Along(path))?)),
+            None => Ok(None),
         }
     }
 

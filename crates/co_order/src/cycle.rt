@@ -4,7 +4,8 @@ use crate::lists::{number_at, put_at, zeros};
 use std::alloc::{AllocError, Global};
 
 /// Of the cycles of transactions, which are the first nodes, the one that begins with the least transaction that is on one: a shortest, and of
-/// those the least. Nodes past the transactions only gather edges.
+/// those the least. Nodes past the transactions only gather edges: a way through them counts as one edge. Between two of them an edge leads to the
+/// greater one.
 pub(crate) fn least_cycle(
     alloc: Global,
     transactions: usize,
@@ -34,7 +35,8 @@ pub(crate) fn least_cycle(
     Ok(None)
 }
 
-/// How far it is from each node of the component to a transaction, in half edges and one more; 0 where there is no way.
+/// How many transactions the shortest way from each node of the component to a transaction has, that one and the node counted where it is one; 0
+/// where there is no way.
 fn distances(
     alloc: Global,
     transactions: usize,
@@ -48,52 +50,88 @@ fn distances(
     put_at(distance.as_mut_slice(), target, 1);
     let here = number_at(component, target);
     let mut now: Vec<usize> = Vec::new(alloc);
-    let mut next: Vec<usize> = Vec::new(alloc);
-    let mut later: Vec<usize> = Vec::new(alloc);
     now.push(target)?;
-    for level in 1..nodes.saturating_mul(2).saturating_add(2) {
-        if now.is_empty() && next.is_empty() {
-            break;
-        }
-        for node in now.as_slice() {
-            if number_at(distance.as_slice(), *node) != level {
+    let steps = back.edges().saturating_mul(2);
+    for level in 1..transactions.saturating_add(2) {
+        let mut next: Vec<usize> = Vec::new(alloc);
+        for _ in 0..=steps {
+            let node = match now.pop() {
+                Some(node) => node,
+                None => break,
+            };
+            if number_at(distance.as_slice(), node) != level {
                 continue;
             }
-            for edge in back.first(*node)..back.past(*node) {
+            for edge in back.first(node)..back.past(node) {
                 let from = back.end(edge);
                 if number_at(component, from) != here {
                     continue;
                 }
-                let whole = *node < transactions && from < transactions;
-                let reach = if whole {
-                    level.saturating_add(2)
-                } else {
+                let reach = if from < transactions {
                     level.saturating_add(1)
+                } else {
+                    level
                 };
                 let known = number_at(distance.as_slice(), from);
                 if known == 0 || known > reach {
                     put_at(distance.as_mut_slice(), from, reach);
-                    if whole {
-                        later.push(from)?;
+                    if reach == level {
+                        now.push(from)?;
                     } else {
                         next.push(from)?;
                     }
                 }
             }
         }
+        if next.is_empty() {
+            break;
+        }
         now = next;
-        next = later;
-        later = Vec::new(alloc);
     }
     Ok(distance)
 }
 
-/// The lesser of a choice and another one.
-fn lesser_choice(found: Option<usize>, node: usize) -> Option<usize> {
-    match found {
-        Some(old) if old <= node => Some(old),
-        _ => Some(node),
+/// Of the transactions to which a node leads, by the nodes that gather edges, the nearest, and of those the least.
+fn nearest(graph: &Graph, distance: &[usize], onward: &[usize], node: usize) -> Option<usize> {
+    let mut best: Option<usize> = None;
+    let mut least = usize::MAX;
+    for edge in graph.first(node)..graph.past(node) {
+        let end = graph.end(edge);
+        let far = number_at(distance, end);
+        if far == 0 || far > least {
+            continue;
+        }
+        let txn = number_at(onward, end);
+        best = match best {
+            Some(old) if far == least && old <= txn => Some(old),
+            _ => Some(txn),
+        };
+        least = far;
     }
+    best
+}
+
+/// For each node the nearest transaction from it on, of those the least; a transaction is its own.
+fn onward_of(
+    alloc: Global,
+    transactions: usize,
+    graph: &Graph,
+    distance: &[usize],
+) -> Result<Vec<usize>, AllocError> {
+    let mut onward = Vec::new(alloc);
+    for node in 0..graph.nodes {
+        onward.push(node)?;
+    }
+    for back in 0..graph.nodes.saturating_sub(transactions) {
+        let node = graph.nodes.saturating_sub(back).saturating_sub(1);
+        if number_at(distance, node) == 0 {
+            continue;
+        }
+        if let Some(txn) = nearest(graph, distance, onward.as_slice(), node) {
+            put_at(onward.as_mut_slice(), node, txn);
+        }
+    }
+    Ok(onward)
 }
 
 /// A shortest cycle from a transaction, and of those the least.
@@ -107,51 +145,17 @@ fn cycle_from(
 ) -> Result<Vec<usize>, AllocError> {
     let distance = distances(alloc, transactions, nodes, edges, component, start)?;
     let graph = Graph::of(alloc, nodes, edges, false)?;
+    let onward = onward_of(alloc, transactions, &graph, distance.as_slice())?;
     let mut cycle = Vec::new(alloc);
     cycle.push(start)?;
     let mut at = start;
-    // What is left to go, behind the next edge.
-    let mut left = usize::MAX;
     for _ in 0..transactions {
-        let mut best: Option<usize> = None;
-        let mut least = left;
-        for edge in graph.first(at)..graph.past(at) {
-            let end = graph.end(edge);
-            if end < transactions {
-                let far = number_at(distance.as_slice(), end);
-                if far != 0 && far <= least {
-                    best = if far < least {
-                        Some(end)
-                    } else {
-                        lesser_choice(best, end)
-                    };
-                    least = far;
-                }
-                continue;
+        match nearest(&graph, distance.as_slice(), onward.as_slice(), at) {
+            Some(txn) if txn != start => {
+                cycle.push(txn)?;
+                at = txn;
             }
-            for then in graph.first(end)..graph.past(end) {
-                let beyond = graph.end(then);
-                let far = number_at(distance.as_slice(), beyond);
-                if far != 0 && far <= least {
-                    best = if far < least {
-                        Some(beyond)
-                    } else {
-                        lesser_choice(best, beyond)
-                    };
-                    least = far;
-                }
-            }
-        }
-        match best {
-            Some(node) => {
-                if node == start {
-                    break;
-                }
-                cycle.push(node)?;
-                at = node;
-                left = least.saturating_sub(2);
-            }
-            None => break,
+            _ => break,
         }
     }
     Ok(cycle)

@@ -6,19 +6,32 @@
 #![tactic(auto)]
 
 mod answer;
+mod blocks;
 mod build;
+mod closure;
 mod cycle;
 mod digest;
+mod edges;
+mod facts;
+mod forced;
 mod graph;
 mod judge;
 mod knot;
+mod line;
 mod lists;
+mod lookups;
+mod names;
+mod odd;
+mod passing;
+mod reading;
+mod replies;
 mod solve;
 mod sorting;
+mod source;
+mod tell;
 mod text;
 mod web;
 
 pub use answer::{Answer, Told};
 pub use judge::judge_order;
 pub use solve::answer_to;
-pub use text::answer_text;

@@ -5,11 +5,15 @@ ghost use Rattle.co_order.specs.Answer.{IsAnswer, IsSettled};
 use crate::answer::{Answer, Told, by_order, by_refutation, by_repeat};
 use crate::build::Build;
 use crate::cycle::least_cycle;
-use crate::digest::{Digested, Odd, Source, digest_of, value_told};
+use crate::digest::{Digest, Digested, Read, digest_of};
 use crate::graph::{Edge, components};
-use crate::knot::{Line, MOST_OF_KNOT, Searched, search_knot};
+use crate::knot::{MOST_OF_KNOT, Searched, search_knot};
+use crate::line::Line;
 use crate::lists::{number_at, put_at, zeros};
+use crate::odd::Odd;
+use crate::replies::value_told;
 use crate::sorting::{ranked_edges, ranked_nodes, sorted};
+use crate::source::Source;
 use crate::text::lines_text;
 use crate::web::{Web, web_of};
 use co_check::Committed;
@@ -40,7 +44,6 @@ pub fn answer_to(alloc: Global, history: &[Committed]) -> Result<Answer, AllocEr
         return Ok(answer);
     }
     match digest_of(alloc, history)? {
-        Digested::Large => Ok(Answer::Undecided),
         Digested::Odd(odd) => by_odd(alloc, history, odd),
         Digested::Made(digest) => {
             let web = web_of(alloc, digest)?;
@@ -128,7 +131,7 @@ fn by_cycle(
             Some(forced) => forced,
             None => return Ok(Answer::Undecided),
         };
-        match build.two_lines(forced.why, other)? {
+        match build.two_lines(one, other, forced.why)? {
             Some(known) => ring.push(known)?,
             None => return Ok(Answer::Undecided),
         }
@@ -151,6 +154,7 @@ fn search(alloc: Global, history: &[Committed], web: &Web) -> Result<Answer, All
     if let Some(cycle) = least_cycle(alloc, count, web.nodes(), edges.as_slice())? {
         return by_cycle(alloc, history, web, cycle);
     }
+    drop(edges);
     let mut ranks = web.digest.places.clone()?;
     let mut lastly = false;
     for round in 0..MOST_ROUNDS {
@@ -169,7 +173,6 @@ fn search(alloc: Global, history: &[Committed], web: &Web) -> Result<Answer, All
             alloc,
             history,
             web,
-            edges.as_slice(),
             ranked.as_slice(),
             nodes,
             round,
@@ -187,13 +190,7 @@ fn search(alloc: Global, history: &[Committed], web: &Web) -> Result<Answer, All
             all.push(txn)?;
         }
         let mut build = fresh(alloc, history, web);
-        let found = search_knot(
-            alloc,
-            &mut build,
-            all.as_slice(),
-            ranks.as_slice(),
-            edges.as_slice(),
-        )?;
+        let found = search_knot(alloc, &mut build, all.as_slice(), ranks.as_slice())?;
         match found {
             Searched::Refuted(lines) => return by_build(alloc, history, build, lines.as_slice()),
             Searched::Order(order) => {
@@ -252,7 +249,6 @@ fn settle_knots(
     alloc: Global,
     history: &[Committed],
     web: &Web,
-    edges: &[Edge],
     ranked: &[Edge],
     nodes: usize,
     steps: usize,
@@ -291,7 +287,7 @@ fn settle_knots(
         }
         let ids = grown(alloc, web, knot.as_slice(), steps)?;
         let mut build = fresh(alloc, history, web);
-        let found = search_knot(alloc, &mut build, ids.as_slice(), ranks.as_slice(), edges)?;
+        let found = search_knot(alloc, &mut build, ids.as_slice(), ranks.as_slice())?;
         match found {
             Searched::Refuted(lines) => {
                 return Ok(Settled::Answer(by_build(alloc, history, build, lines.as_slice())?));
@@ -314,26 +310,33 @@ fn settle_knots(
     Ok(Settled::Further)
 }
 
+/// The read of two sources at the least line, where there is one.
+fn least_repeated(digest: &Digest) -> Option<Read> {
+    let mut least: Option<Read> = None;
+    let mut line = u32::MAX;
+    for read in digest.reads.as_slice() {
+        if read.source == Source::Many && read.line <= line {
+            line = read.line;
+            least = Some(*read);
+        }
+    }
+    for passed in digest.passed.as_slice() {
+        let record = number_at(digest.erased.as_slice(), passed.span.first);
+        if record < passed.span.past && passed.span.line <= line {
+            line = passed.span.line;
+            least = Some(digest.passing_read(passed, record));
+        }
+    }
+    least
+}
+
 /// Answers by the read of two sources at the least line, where there is one.
 fn repeated(history: &[Committed], web: &Web) -> Result<Answer, AllocError>
     ensures { IfOk result (IsAnswer history.now) }
 {
     let digest = &web.digest;
-    let mut least: Option<usize> = None;
-    let mut line = u32::MAX;
-    for place in 0..digest.reads.len() {
-        if let Some(read) = digest.read_at(place) {
-            if read.source == Source::Many && read.line <= line {
-                line = read.line;
-                least = Some(place);
-            }
-        }
-    }
-    let read = match least {
-        Some(place) => match digest.read_at(place) {
-            Some(read) => read,
-            None => return Ok(Answer::Undecided),
-        },
+    let read = match least_repeated(digest) {
+        Some(read) => read,
         None => return Ok(Answer::Undecided),
     };
     let mut one: Option<usize> = None;
@@ -374,7 +377,7 @@ fn repeated(history: &[Committed], web: &Web) -> Result<Answer, AllocError>
                 one,
                 other,
             };
-            Ok(by_repeat(history, &repeat, number, line))
+            Ok(by_repeat(history, &repeat, number, read.line))
         }
         None => Ok(Answer::Undecided),
     }

@@ -24,7 +24,7 @@ pub(crate) fn ranked_edges(
     let mut roots: BTreeMap<Ranked, usize> = BTreeMap::new(alloc);
     for place in 0..digest.left.len() {
         if let Some(left) = digest.left_at(place) {
-            if number_at(web.blocks.as_slice(), place) == VERSION.saturating_add(left.txn) {
+            if web.is_root(place) {
                 roots.insert(
                     Ranked {
                         record: left.record,

@@ -1,6 +1,6 @@
 //! The text of an answer.
 use crate::answer::{Answer, Told};
-use crate::knot::Line;
+use crate::line::Line;
 use co_check::Committed;
 use itoa::Buffer;
 use std::alloc::{AllocError, Global};
@@ -67,7 +67,7 @@ fn number_of(numbers: &[u32], txn: usize) -> u32 {
 }
 
 /// The text of an answer about these transactions, the first decided one first.
-pub fn answer_text(
+pub(crate) fn answer_text(
     alloc: Global,
     history: &[Committed],
     answer: &Answer,

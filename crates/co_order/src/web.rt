@@ -1,7 +1,7 @@
-//! Which versions stand behind which, and what that forces on two transactions.
-use crate::digest::{Digest, Left, Read, Source};
-use crate::graph::Edge;
+//! Which versions stand behind which, and who read one version.
+use crate::digest::{Digest, Read};
 use crate::lists::{number_at, put_at, zeros};
+use crate::source::Source;
 use std::alloc::{AllocError, Global};
 use std::collections::BTreeMap;
 
@@ -30,6 +30,19 @@ pub(crate) struct Least {
     pub(crate) second: Option<usize>,
 }
 
+/// None read it and wrote the record.
+const NOBODY: Least = Least {
+    first: None,
+    second: None,
+};
+
+impl Least {
+    /// Whether a transaction is one of the two.
+    pub(crate) fn has(&self, txn: usize) -> bool {
+        self.first == Some(txn) || self.second == Some(txn)
+    }
+}
+
 /// What transactions did, with the versions in blocks.
 #[derive(Drop)]
 pub(crate) struct Web {
@@ -38,101 +51,11 @@ pub(crate) struct Web {
     /// The block of each version that was left.
     pub(crate) blocks: Vec<usize>,
     /// The number of the group of each read, from 1 on; 0 where it has two sources.
-    pub(crate) groups: Vec<usize>,
+    groups: Vec<usize>,
+    /// The number of the group of the reads of each record that have the start as their source, from 1 on; 0 where none wrote it.
+    start_groups: Vec<usize>,
     /// Who wrote, of each group.
-    pub(crate) least: Vec<Least>,
-}
-
-/// Why one transaction stands before another, by two of their lines.
-#[derive(Clone, Copy)]
-pub(crate) enum Why {
-    /// The other reads what the one left: the place of the read.
-    From(usize),
-    /// Both read one version, and the other wrote the record: the places of both reads.
-    Next(usize, usize),
-    /// The one has its read or version in the block of the start, and the version of the other stands behind none.
-    First {
-        /// The record.
-        record: usize,
-        /// The place of the read of the one, where it is that.
-        read: Option<usize>,
-        /// The place of what it left, where it is that.
-        left: Option<usize>,
-    },
-}
-
-/// An edge with its lines.
-#[derive(Clone, Copy)]
-pub(crate) struct Forced {
-    /// Why.
-    pub(crate) why: Why,
-    /// The line of the one.
-    pub(crate) first: u32,
-    /// The line of the other.
-    pub(crate) second: u32,
-}
-
-impl Digest {
-    /// The place of what a transaction left in a record.
-    pub(crate) fn left_of(&self, txn: usize, record: usize) -> Option<usize> {
-        let mut low = number_at(self.left_starts.as_slice(), txn);
-        let mut high = number_at(self.left_starts.as_slice(), txn.saturating_add(1));
-        for _ in 0..64 {
-            if low >= high {
-                break;
-            }
-            let mid = low.saturating_add(high.saturating_sub(low) / 2);
-            let found = self.left.get(mid)?.record;
-            if found == record {
-                return Some(mid);
-            }
-            if found < record {
-                low = mid.saturating_add(1);
-            } else {
-                high = mid;
-            }
-        }
-        None
-    }
-
-    /// The place of what it read there from others.
-    pub(crate) fn read_of(&self, txn: usize, record: usize) -> Option<usize> {
-        let mut low = number_at(self.read_starts.as_slice(), txn);
-        let mut high = number_at(self.read_starts.as_slice(), txn.saturating_add(1));
-        for _ in 0..64 {
-            if low >= high {
-                break;
-            }
-            let mid = low.saturating_add(high.saturating_sub(low) / 2);
-            let found = self.reads.get(mid)?.record;
-            if found == record {
-                return Some(mid);
-            }
-            if found < record {
-                low = mid.saturating_add(1);
-            } else {
-                high = mid;
-            }
-        }
-        None
-    }
-
-    /// What was left, at a place.
-    pub(crate) fn left_at(&self, place: usize) -> Option<Left> {
-        let left = self.left.get(place)?;
-        Some(*left)
-    }
-
-    /// What was read, at a place.
-    pub(crate) fn read_at(&self, place: usize) -> Option<Read> {
-        let read = self.reads.get(place)?;
-        Some(*read)
-    }
-
-    /// How many transactions there are.
-    pub(crate) fn count(&self) -> usize {
-        self.places.len()
-    }
+    least: Vec<Least>,
 }
 
 /// Where the block of a version leads: to another version, or to its block.
@@ -150,10 +73,7 @@ fn stands_behind(digest: &Digest, place: usize) -> Behind {
     };
     let own = Behind::Block(VERSION.saturating_add(left.txn));
     let read = match digest.read_of(left.txn, left.record) {
-        Some(at) => match digest.read_at(at) {
-            Some(read) => read,
-            None => return own,
-        },
+        Some(read) => read,
         None => return own,
     };
     match read.source {
@@ -198,54 +118,77 @@ fn blocks_of(alloc: Global, digest: &Digest) -> Result<Vec<usize>, AllocError> {
     Ok(blocks)
 }
 
-/// Makes the web of a digest.
-pub(crate) fn web_of(alloc: Global, digest: Digest) -> Result<Web, AllocError> {
-    let blocks = blocks_of(alloc, &digest)?;
-    let mut groups = Vec::new(alloc);
-    let mut least: Vec<Least> = Vec::new(alloc);
-    let mut known: BTreeMap<Group, usize> = BTreeMap::new(alloc);
-    for read in digest.reads.as_slice() {
+/// The groups of the reads, on the way through them.
+#[derive(Drop)]
+struct Groups {
+    known: BTreeMap<Group, usize>,
+    groups: Vec<usize>,
+    start_groups: Vec<usize>,
+    least: Vec<Least>,
+}
+
+impl Groups {
+    /// The number of a group, from 1 on.
+    fn number(&mut self, group: Group) -> Result<usize, AllocError> {
+        if let Some(number) = self.known.get(&group) {
+            return Ok(*number);
+        }
+        self.least.push(NOBODY)?;
+        let number = self.least.len();
+        self.known.insert(group, number)?;
+        Ok(number)
+    }
+
+    /// Takes in a read.
+    fn add(&mut self, digest: &Digest, read: &Read) -> Result<(), AllocError> {
         let source = match read.source {
             Source::Many => {
-                groups.push(0)?;
-                continue;
+                self.groups.push(0)?;
+                return Ok(());
             }
             Source::Start => 0,
             Source::One(source) => source.saturating_add(1),
         };
-        let group = Group {
+        let number = self.number(Group {
             record: read.record,
             source,
-        };
-        let number = match known.get(&group) {
-            Some(number) => *number,
-            None => {
-                let number = least.len();
-                least.push(Least {
-                    first: None,
-                    second: None,
-                })?;
-                known.insert(group, number)?;
-                number
-            }
-        };
-        groups.push(number.saturating_add(1))?;
-        if digest.left_of(read.txn, read.record).is_some() {
-            if let Some(found) = least.get_mut(number) {
-                if found.first.is_none() {
-                    found.first = Some(read.txn);
-                } else if found.second.is_none() {
-                    found.second = Some(read.txn);
-                }
+        })?;
+        self.groups.push(number)?;
+        if digest.left_of(read.txn, read.record).is_none() {
+            return Ok(());
+        }
+        if source == 0 {
+            put_at(self.start_groups.as_mut_slice(), read.record, number);
+        }
+        if let Some(found) = self.least.get_mut(number.saturating_sub(1)) {
+            if found.first.is_none() {
+                found.first = Some(read.txn);
+            } else if found.second.is_none() {
+                found.second = Some(read.txn);
             }
         }
+        Ok(())
     }
-    drop(known);
+}
+
+/// Makes the web of a digest.
+pub(crate) fn web_of(alloc: Global, digest: Digest) -> Result<Web, AllocError> {
+    let blocks = blocks_of(alloc, &digest)?;
+    let mut groups = Groups {
+        known: BTreeMap::new(alloc),
+        groups: Vec::new(alloc),
+        start_groups: zeros(alloc, digest.records.len())?,
+        least: Vec::new(alloc),
+    };
+    for read in digest.reads.as_slice() {
+        groups.add(&digest, read)?;
+    }
     Ok(Web {
         digest,
         blocks,
-        groups,
-        least,
+        groups: groups.groups,
+        start_groups: groups.start_groups,
+        least: groups.least,
     })
 }
 
@@ -307,191 +250,33 @@ impl Web {
         Ok(distinct)
     }
 
-    /// Who wrote, of the group of a read.
-    pub(crate) fn least_of(&self, read: usize) -> Least {
-        let group = number_at(self.groups.as_slice(), read);
+    /// Who wrote, of a group.
+    fn least_in(&self, group: usize) -> Least {
+        if group == 0 {
+            return NOBODY;
+        }
         match self.least.get(group.saturating_sub(1)) {
-            Some(least) => {
-                if group == 0 {
-                    Least {
-                        first: None,
-                        second: None,
-                    }
-                } else {
-                    *least
-                }
-            }
-            None => Least {
-                first: None,
-                second: None,
-            },
+            Some(least) => *least,
+            None => NOBODY,
         }
     }
 
-    /// How many nodes the graph of the edges by two lines has: the transactions, and one behind the start's block of each record.
-    pub(crate) fn nodes(&self) -> usize {
-        self.digest
-            .count()
-            .saturating_add(self.digest.records.len())
+    /// Who wrote, of the group of the read at a place.
+    pub(crate) fn least_of(&self, read: usize) -> Least {
+        self.least_in(number_at(self.groups.as_slice(), read))
     }
 
-    /// The edges by two lines.
-    pub(crate) fn edges(&self, alloc: Global) -> Result<Vec<Edge>, AllocError> {
-        let count = self.digest.count();
-        let mut edges = Vec::new(alloc);
-        for place in 0..self.digest.reads.len() {
-            let read = match self.digest.read_at(place) {
-                Some(read) => read,
-                None => break,
-            };
-            if let Source::One(source) = read.source {
-                edges.push(Edge {
-                    from: source,
-                    to: read.txn,
-                })?;
-            }
-            let least = self.least_of(place);
-            if let Some(first) = least.first {
-                if first != read.txn {
-                    edges.push(Edge {
-                        from: read.txn,
-                        to: first,
-                    })?;
-                }
-            }
-            if let Some(second) = least.second {
-                if second != read.txn {
-                    edges.push(Edge {
-                        from: read.txn,
-                        to: second,
-                    })?;
-                }
-            }
-            if self.block_of(&read) == START {
-                edges.push(Edge {
-                    from: read.txn,
-                    to: count.saturating_add(read.record),
-                })?;
-            }
-        }
-        for place in 0..self.digest.left.len() {
-            let left = match self.digest.left_at(place) {
-                Some(left) => left,
-                None => break,
-            };
-            let block = number_at(self.blocks.as_slice(), place);
-            if block == START {
-                edges.push(Edge {
-                    from: left.txn,
-                    to: count.saturating_add(left.record),
-                })?;
-            } else if block == VERSION.saturating_add(left.txn) {
-                edges.push(Edge {
-                    from: count.saturating_add(left.record),
-                    to: left.txn,
-                })?;
-            }
-        }
-        Ok(edges)
+    /// Who wrote a record, of those who read what the start has there.
+    pub(crate) fn least_of_start(&self, record: usize) -> Least {
+        self.least_in(number_at(self.start_groups.as_slice(), record))
     }
 
-    /// Why one transaction stands before another, by the least two of their lines.
-    pub(crate) fn forced(&self, one: usize, other: usize) -> Option<Forced> {
-        let mut found: Option<Forced> = None;
-        let starts = self.digest.read_starts.as_slice();
-        for place in number_at(starts, other)..number_at(starts, other.saturating_add(1)) {
-            if let Some(read) = self.digest.read_at(place) {
-                if read.source == Source::One(one) {
-                    let left = self.digest.left_of(one, read.record);
-                    if let Some(left) = self.left_line(left) {
-                        found = lesser(found, Why::From(place), left, read.line);
-                    }
-                }
-            }
-        }
-        for place in number_at(starts, one)..number_at(starts, one.saturating_add(1)) {
-            if let Some(read) = self.digest.read_at(place) {
-                found = self.forced_by_read(one, other, place, &read, found);
-            }
-        }
-        let starts = self.digest.left_starts.as_slice();
-        for place in number_at(starts, one)..number_at(starts, one.saturating_add(1)) {
-            if number_at(self.blocks.as_slice(), place) != START {
-                continue;
-            }
-            if let Some(left) = self.digest.left_at(place) {
-                if let Some(line) = self.root_line(other, left.record) {
-                    let why = Why::First {
-                        record: left.record,
-                        read: None,
-                        left: Some(place),
-                    };
-                    found = lesser(found, why, left.line, line);
-                }
-            }
-        }
-        found
-    }
-
-    /// The line of what was left at a place.
-    pub(crate) fn left_line(&self, place: Option<usize>) -> Option<u32> {
-        let left = self.digest.left_at(place?)?;
-        Some(left.line)
-    }
-
-    /// The line of the version of a transaction, where it stands behind none.
-    pub(crate) fn root_line(&self, txn: usize, record: usize) -> Option<u32> {
-        let place = self.digest.left_of(txn, record)?;
-        if number_at(self.blocks.as_slice(), place) == VERSION.saturating_add(txn) {
-            self.left_line(Some(place))
-        } else {
-            None
-        }
-    }
-
-    /// The lesser of an edge and those by a read of the one.
-    fn forced_by_read(
-        &self,
-        one: usize,
-        other: usize,
-        place: usize,
-        read: &Read,
-        found: Option<Forced>,
-    ) -> Option<Forced> {
-        let mut found = found;
-        let least = self.least_of(place);
-        if one != other && (least.first == Some(other) || least.second == Some(other)) {
-            let line = self.left_line(self.digest.left_of(other, read.record));
-            let also = self.digest.read_of(other, read.record);
-            if let (Some(line), Some(also)) = (line, also) {
-                found = lesser(found, Why::Next(place, also), read.line, line);
-            }
-        }
-        if self.block_of(read) == START {
-            if let Some(line) = self.root_line(other, read.record) {
-                let why = Why::First {
-                    record: read.record,
-                    read: Some(place),
-                    left: None,
-                };
-                found = lesser(found, why, read.line, line);
-            }
-        }
-        found
-    }
-}
-
-/// The one with the lesser lines.
-fn lesser(found: Option<Forced>, why: Why, first: u32, second: u32) -> Option<Forced> {
-    let new = Forced { why, first, second };
-    match found {
-        None => Some(new),
-        Some(old) => {
-            if old.first < first || (old.first == first && old.second <= second) {
-                Some(old)
-            } else {
-                Some(new)
-            }
+    /// Whether the version that was left at a place stands behind none.
+    pub(crate) fn is_root(&self, place: usize) -> bool {
+        match self.digest.left_at(place) {
+            Some(left) => number_at(self.blocks.as_slice(), place)
+                == VERSION.saturating_add(left.txn),
+            None => false,
         }
     }
 }

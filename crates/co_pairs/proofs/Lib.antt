@@ -1,5 +1,2 @@
 pub mod Picking
-pub mod Mapped
-pub mod Pairing
-pub mod OneMore
 pub mod Votes

@@ -6,7 +6,6 @@ use Rattle.std.specs.Cmp.{nat_cmp_total, both_ways, eq_by_cmp_equiv}
 use Rattle.std.specs.FinMap.{nat_cmp-IsAntisymmetric}
 use Rattle.std.specs.FinMap.Entries.{find, below_all, is_sorted, same_entries}
 use Rattle.co_state.specs.Table.{first_in}
-use Rattle.co_pairs.specs.NewPairs.{passes}
 pub use Rattle.co_state.proofs.Ties.{both, first, second, tied}
 use Rattle.co_state.proofs.Ties.{nothing_below}
 
@@ -22,7 +21,12 @@ apart_tie t u e = ties u t ∙ e
 pub itself : (t : ℕ) → eq_by_cmp nat_cmp t t ≡ true
 itself t = ties t t ∙ eq-eqb t t refl
 
--- a number below all others is not found among them
+-- a test of an entry, if there is one
+abbrev pub passes : {X : Type 0} → (X → Bool) → Option X → Bool
+passes test None = false
+passes test (Some x) = test x
+
+-- what is picked of an entry, if there is one
 abbrev pub pick_in : {X Y : Type 0} → (ℕ → X → Option Y) → ℕ → Option X → Option Y
 pick_in pick q None = None
 pick_in pick q (Some x) = pick q x

@@ -1,11 +1,9 @@
-//! What transactions read and wrote, the conflicts between them, and transactions that have prepared.
+//! Transactions that have prepared: their votes as a table, and whether they may wait side by side.
+//!
+//! **What is proved.** Prepared transactions are free exactly where their numbers differ and no two of them are in conflict.
 #![tactic(auto)]
 
 mod prepared;
-mod sets;
-mod side;
 
-pub use co_state::{Pair, PairKind, Pairs, Sets};
+pub use co_state::Sets;
 pub use prepared::{Prepared, PreparedList, are_free};
-pub use sets::grown;
-pub use side::{Side, meets_on, pair_of};

@@ -12,8 +12,7 @@ use Rattle.co_state.specs.Changes.{sets_of}
 use Rattle.co_state.specs.LockRule.{writes_block, active_blocks}
 use Rattle.co_state.specs.Search.{sets_block}
 use Rattle.co_state.specs.Table.{Table, look, first_in, least_where}
-use Rattle.co_pairs.specs.NewPairs.{passes}
-use Rattle.co_pairs.proofs.Picking.{first-picked}
+use Rattle.co_pairs.proofs.Picking.{passes, first-picked}
 use Rattle.co_engine.specs.declared.undecided.Undecided.{Undecided}
 use Rattle.co_engine.specs.Undecided.{active_sets, voted_sets}
 use Rattle.co_engine.proofs.Keeping.{pick_active, pick_voted, pick_operations, pick_vote, actives_kept, voteds_kept}

@@ -1,8 +1,6 @@
 -- For which states a plain engine stands after each call.
-use Rattle.std.proofs.Common.{◌≡◌, T, ℕ, Bool, true, false, List, [], ◌∷◌, length, if◌then◌else◌, is_some, Option, None, Some, IsTrue, refl, sym, ap, ◌∙◌, subst, true≢false}
-use Rattle.std.specs.Option.{option_map}
-use Rattle.std.specs.FinMap.{entries, entries_sorted, get-empty}
-use Rattle.std.specs.FinMap.Entries.{find}
+use Rattle.std.proofs.Common.{◌≡◌, ℕ, Bool, true, false, List, [], ◌∷◌, length, if◌then◌else◌, is_some, Option, None, Some, IsTrue, refl, sym, ap, ◌∙◌, true≢false}
+use Rattle.std.specs.FinMap.{entries, get-empty}
 use Rattle.std.specs.Ordering.{nat_cmp}
 use Rattle.co_base.specs.declared.op.Op.{Op}
 use Rattle.co_serial.specs.Records.{Records, with_changes}
@@ -12,26 +10,21 @@ use Rattle.co_state.specs.declared.engine_state.Operation.{Operation}
 use Rattle.co_state.specs.declared.engine_state.Sets.{Sets}
 use Rattle.co_state.specs.declared.engine_state.Vote.{Vote}
 use Rattle.co_state.specs.Changes.{sets_of}
-use Rattle.co_state.specs.Conflicts.{AreNewPairs}
 use Rattle.co_state.specs.Effects.{with_operation, after_cast, after_install, after_drop, install_vote, restored, undecided_changes}
-use Rattle.co_state.specs.EngineState.{operations_in, operations_of, sets_at, records_at, records_now, installed_records}
+use Rattle.co_state.specs.EngineState.{operations_in, operations_of, records_at, records_now, installed_records}
 use Rattle.co_state.specs.LockRule.{lock_blocker, lock_holder, blocker_by}
 use Rattle.co_state.specs.ReadRule.{stamp_after, snapshot_of, operation_reply}
 use Rattle.co_state.specs.Table.{no_entries, look, put, without, holds, lesser}
 use Rattle.co_state.proofs.Tables.{put-without}
 use Rattle.co_pairs.specs.declared.prepared.Prepared.{Prepared}
-use Rattle.co_pairs.specs.NewPairs.{or_nothing, grown_by}
-use Rattle.co_pairs.proofs.OneMore.{grows_at, new_pairs}
-use Rattle.co_pairs.proofs.Mapped.{sorted-mapped, find-mapped}
-use Rattle.co_pairs.proofs.Pairing.{Grows, made_new}
 use Rattle.co_engine.specs.declared.undecided.Undecided.{Undecided}
 use Rattle.co_engine.specs.Calls.{may_operate, votes_of, vote_in}
-use Rattle.co_engine.specs.Undecided.{active_with, or_new, with_vote, IsKept, changes_kept}
+use Rattle.co_engine.specs.Undecided.{with_vote, IsKept, changes_kept}
 use Rattle.co_engine.proofs.Keeping.{kept_changes}
 use Rattle.co_engine.proofs.Answering.{not_voted}
 use Rattle.co_engine.proofs.Rolling.{kept_along, nothing_kept, none_mapped, sets_kept, own_kept, each_grown, each_cast, each_gone, each_installed, each_voted}
 use Rattle.co_plain_engine.specs.declared.plain.PlainEngine.{PlainEngine}
-use Rattle.co_plain_engine.specs.Plain.{StandsFor, voted_roll, sets_listed, own_operations, own_stamp, own_sets, own_records, own_holder, with_own, own_pairs}
+use Rattle.co_plain_engine.specs.Plain.{StandsFor, voted_roll, own_operations, own_stamp, own_sets, own_records, own_holder, with_own}
 use Rattle.co_plain_engine.proofs.Blocking.{active_holder, voted_holder}
 
 -- ---- reading a state
@@ -40,9 +33,6 @@ operations_alike p b t s = ap (λ m. operations_in (look m t)) s.active_is
 
 pub stamp_alike : (p : PlainEngine) (b : EngineState) (t : ℕ) → StandsFor p b → own_stamp p t ≡ snapshot_of b t
 stamp_alike p b t s = λ i. stamp_after (s.kind_is i) (length (s.installed_is i)) (operations_alike p b t s i)
-
-pub sets_alike : (p : PlainEngine) (b : EngineState) (t : ℕ) → StandsFor p b → sets_at b t ≡ own_sets p t
-sets_alike p b t s = sets_kept (look p.undecided t) (look b.active t) (look b.voted t) (s.each t)
 
 pub holder_alike : (p : PlainEngine) (b : EngineState) (t : ℕ) (op : Op) → StandsFor p b → own_holder p t op ≡ lock_holder b t op
 holder_alike p b t op s = λ i. lesser
@@ -66,26 +56,6 @@ stands_with p b t op s h = record {
   active_is = put-without p.active t _ ∙ (λ i. put (s.active_is i) t (record { op = op; stamp = stamp_alike p b t s i } ∷ operations_alike p b t s i));
   each = each_grown p.undecided b t op (snapshot_of b t) s.each (not_voted b t h);
 }
-
--- what a transaction of the roll read and wrote
-abbrev pub kept_of : Option Undecided → Sets
-kept_of o = (or_new o).sets
-
-listed_alike : (o : Option Undecided) → kept_of o ≡ or_nothing (option_map (λ e. e.sets) o)
-listed_alike None = refl
-listed_alike (Some e) = refl
-
--- and makes exactly the new pairs
-pub pairs_alike : (p : PlainEngine) (b : EngineState) (t : ℕ) (op : Op) → StandsFor p b → IsTrue (may_operate b t) → AreNewPairs b (with_operation b t op) (own_pairs p t op)
-pairs_alike p b t op s h =
-    let next = stands_with p b t op s h in
-    let rest = entries (without p.undecided t) in
-    let g : Grows (sets_listed rest) t (own_sets p t) (grown_by op (own_sets p t)) (own_sets p) (own_sets (with_own p t op)) =
-    grows_at kept_of p.undecided t (active_with (grown_by op (own_sets p t))) (sets_listed rest)
-    (subst T (sym (sorted-mapped (λ (e : Undecided). e.sets) rest)) (entries_sorted (without p.undecided t)))
-    (λ none. find-mapped (λ (e : Undecided). e.sets) t rest ∙ ap (option_map (λ (e : Undecided). e.sets)) none)
-    (λ u. listed_alike (find nat_cmp u rest) ∙ ap or_nothing (sym (find-mapped (λ (e : Undecided). e.sets) u rest))) in
-    new_pairs b (with_operation b t op) (own_sets p) (own_sets (with_own p t op)) (own_pairs p t op) (λ u. sets_alike p b u s) (λ u. sets_alike (with_own p t op) (with_operation b t op) u next) (made_new g)
 
 -- ---- votes, commits and drops
 pub stands_cast : (p : PlainEngine) (b : EngineState) (t coord count : ℕ) → StandsFor p b → IsTrue (holds b.active t)

@@ -6,17 +6,15 @@ use Rattle.co_serial.specs.Records.{Records, with_changes}
 use Rattle.co_state.specs.declared.engine_state.EngineState.{EngineState}
 use Rattle.co_state.specs.declared.engine_state.Operation.{Operation}
 use Rattle.co_state.specs.declared.engine_state.Sets.{Sets}
-use Rattle.co_state.specs.declared.pair.Pair.{Pair}
 use Rattle.co_state.specs.EngineState.{operations_in, records_at}
 use Rattle.co_state.specs.LockRule.{writes_block}
 use Rattle.co_state.specs.ReadRule.{stamp_after}
 use Rattle.co_state.specs.Search.{sets_block}
 use Rattle.co_state.specs.Table.{Table, look, put, without, first_in, lesser}
 use Rattle.co_pairs.specs.declared.prepared.Prepared.{Prepared}
-use Rattle.co_pairs.specs.NewPairs.{mapped, grown_by, all_made}
 use Rattle.co_pairs.specs.Votes.{told_of}
 use Rattle.co_engine.specs.declared.undecided.Undecided.{Undecided}
-use Rattle.co_engine.specs.Undecided.{active_with, voted_with, own, IsKept}
+use Rattle.co_engine.specs.Undecided.{active_with, grown_by, voted_with, own, IsKept}
 use Rattle.co_plain_engine.specs.declared.plain.PlainEngine.{PlainEngine}
 
 pub record StandsFor (p : PlainEngine) (b : EngineState) : Type 0 where
@@ -29,10 +27,6 @@ pub record StandsFor (p : PlainEngine) (b : EngineState) : Type 0 where
 -- the prepared transactions as voted ones
 abbrev pub voted_roll : List Prepared → Table Undecided
 voted_roll ps = told_of (λ p. voted_with p.sets) ps
-
--- the transactions of a roll by what they read and wrote
-abbrev pub sets_listed : List (ℕ × Undecided) → List (ℕ × Sets)
-sets_listed es = mapped (λ e. e.sets) es
 
 -- the operations of an active transaction, newest first; none of another one
 abbrev pub own_operations : PlainEngine → ℕ → List Operation
@@ -63,7 +57,3 @@ with_own p t op = record p {
   active = put (without p.active t) t (record { op = op; stamp = own_stamp p t } ∷ own_operations p t);
   undecided = put (without p.undecided t) t (active_with (grown_by op (own_sets p t)));
 }
-
--- the pairs that the operation makes
-abbrev pub own_pairs : PlainEngine → ℕ → Op → List Pair
-own_pairs p t op = all_made (sets_listed (entries (without p.undecided t))) t (own_sets p t) (grown_by op (own_sets p t))

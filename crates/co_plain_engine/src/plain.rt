@@ -1,5 +1,5 @@
 //! An engine that keeps the state itself.
-ghost use Rattle.std.specs.Prelude.{◌≡◌, ◌&&◌, not, ◌==◌, [], IsTrue, IfOk, OnOk, OnErr, reverse};
+ghost use Rattle.std.specs.Prelude.{◌≡◌, ◌&&◌, not, ◌==◌, [], IsTrue, IfOk, OnOk, reverse};
 ghost use Rattle.std.specs.FinMap.{entries};
 ghost use Rattle.co_state.specs.declared.engine_state.EngineState.{EngineState};
 ghost use Rattle.co_serial.specs.Records.{all_rows};
@@ -9,14 +9,12 @@ ghost use Rattle.co_state.specs.EngineState.{operations_in, records_now};
 ghost use Rattle.co_state.specs.LockRule.{blocker_by, writes_block};
 ghost use Rattle.co_state.specs.Search.{sets_block};
 ghost use Rattle.co_state.specs.Table.{look, without, first_in};
-ghost use Rattle.co_state.specs.Conflicts.{AreNewPairs};
-ghost use Rattle.co_engine.specs.Calls.{may_operate, seen_of, Appends, AppendsNewPairs};
-ghost use Rattle.co_plain_engine.specs.Plain.{StandsFor, own_operations, own_stamp, own_holder, own_records, own_pairs, voted_roll, with_own};
+ghost use Rattle.co_engine.specs.Calls.{may_operate, seen_of};
+ghost use Rattle.co_plain_engine.specs.Plain.{StandsFor, own_operations, own_stamp, own_holder, own_records, voted_roll, with_own};
 
-use crate::new_pairs::pairs_made;
 use co_base::{Key, Kind, Op, Range, Reply, Rows, Txn, Value, Writes};
-use co_engine::{Dump, Engine, Roll, Seen, Undecided, append, dump_in_place, writing};
-use co_pairs::{Pairs, Prepared, Sets, grown};
+use co_engine::{Dump, Engine, Roll, Seen, Undecided, dump_in_place, grown, writing};
+use co_pairs::{Prepared, Sets};
 use co_state::{
     History, Install, Operation, Operations, RecordMap, Table, lesser, records_at, records_from,
     sets_block, stale_key, writes_block,
@@ -34,13 +32,6 @@ pub struct PlainEngine {
     active: Table<Operations>,
     undecided: Roll,
     nothing: Sets,
-}
-
-/// An answered or blocked operation with the pairs that it made.
-#[derive(Drop)]
-struct Operated {
-    seen: Seen,
-    pairs: Pairs,
 }
 
 /// The least other active transaction that is in the way of an operation.
@@ -160,58 +151,30 @@ impl PlainEngine {
         records.apply(alloc, op)
     }
 
-    /// Adds an operation to its transaction and gives the pairs that it makes.
-    fn add(&mut self, alloc: Global, t: Txn, op: Op) -> Result<Pairs, AllocError>
-        ensures state { OnOk result (self.new ≡ with_own self.old t op) }
-        ensures pairs { IfOk result (λ pairs. pairs ≡ own_pairs self.old t op) }
+    /// Adds an operation to its transaction.
+    fn add(&mut self, alloc: Global, t: Txn, op: Op) -> Result<(), AllocError>
+        ensures { OnOk result (self.new ≡ with_own self.old t op) }
     {
         let stamp = self.stamp(t);
         let own = self.undecided.take_or_new(alloc, t);
-        let sets = grown(own.sets.copy(alloc)?, &op)?;
-        let pairs = pairs_made(alloc, &self.undecided, t, &own.sets, &sets)?;
+        let sets = grown(own.sets, &op)?;
         let mut operations = take(alloc, &mut self.active, t);
         operations.push(Operation { op, stamp })?;
         self.active.insert(t, operations)?;
-        self.undecided.put(t, Undecided { voted: false, sets })?;
-        Ok(pairs)
+        self.undecided.put(t, Undecided { voted: false, sets })
     }
 
     /// Does an operation, unless another transaction is in the way.
-    fn operate(&mut self, alloc: Global, t: Txn, op: Op) -> Result<Operated, AllocError>
-        ensures seen { (b : EngineState) → StandsFor self.old b → IsTrue (may_operate b t) → IfOk result (λ operated. operated.seen ≡ seen_of b t op) }
-        ensures state { (b : EngineState) → StandsFor self.old b → IsTrue (may_operate b t) → OnOk result (StandsFor self.new (after_operation b t op)) }
-        ensures pairs { (b : EngineState) → StandsFor self.old b → IsTrue (may_operate b t) → IfOk result (λ operated. AreNewPairs b (after_operation b t op) operated.pairs) }
-    {
-        if let Some(holder) = self.blocker(t, &op) {
-            return Ok(Operated {
-                seen: Seen::Blocked(holder),
-                pairs: Pairs::new(alloc),
-            });
-        }
-        let reply = self.reply(alloc, t, &op)?;
-        let pairs = self.add(alloc, t, op)?;
-        Ok(Operated {
-            seen: Seen::Answer(reply),
-            pairs,
-        })
-    }
-
-    /// Does an operation, unless another transaction is in the way, and adds the pairs that it made.
-    fn serve(
-        &mut self,
-        alloc: Global,
-        t: Txn,
-        op: Op,
-        pairs: &mut Pairs,
-    ) -> Result<Seen, AllocError>
+    fn operate(&mut self, alloc: Global, t: Txn, op: Op) -> Result<Seen, AllocError>
         ensures seen { (b : EngineState) → StandsFor self.old b → IsTrue (may_operate b t) → IfOk result (λ seen. seen ≡ seen_of b t op) }
         ensures state { (b : EngineState) → StandsFor self.old b → IsTrue (may_operate b t) → OnOk result (StandsFor self.new (after_operation b t op)) }
-        ensures pairs { (b : EngineState) → StandsFor self.old b → IsTrue (may_operate b t) → OnOk result (AppendsNewPairs b (after_operation b t op) pairs.old pairs.new) }
-        ensures kept { OnErr result (Appends pairs.old pairs.new) }
     {
-        let operated = self.operate(alloc, t, op)?;
-        append(pairs, &operated.pairs)?;
-        Ok(operated.seen)
+        if let Some(holder) = self.blocker(t, &op) {
+            return Ok(Seen::Blocked(holder));
+        }
+        let reply = self.reply(alloc, t, &op)?;
+        self.add(alloc, t, op)?;
+        Ok(Seen::Answer(reply))
     }
 
     /// The installed records.
@@ -248,26 +211,14 @@ impl Engine for PlainEngine {
         })
     }
 
-    fn read(
-        &mut self,
-        alloc: Global,
-        t: Txn,
-        key: &Key,
-        pairs: &mut Pairs,
-    ) -> Result<Seen, AllocError> {
+    fn read(&mut self, alloc: Global, t: Txn, key: &Key) -> Result<Seen, AllocError> {
         let op = Op::Read(key.copy()?);
-        self.serve(alloc, t, op, pairs)
+        self.operate(alloc, t, op)
     }
 
-    fn scan(
-        &mut self,
-        alloc: Global,
-        t: Txn,
-        range: &Range,
-        pairs: &mut Pairs,
-    ) -> Result<Seen, AllocError> {
+    fn scan(&mut self, alloc: Global, t: Txn, range: &Range) -> Result<Seen, AllocError> {
         let op = Op::Scan(range.copy()?);
-        self.serve(alloc, t, op, pairs)
+        self.operate(alloc, t, op)
     }
 
     fn write(
@@ -276,10 +227,9 @@ impl Engine for PlainEngine {
         t: Txn,
         key: &Key,
         value: Option<&Value>,
-        pairs: &mut Pairs,
     ) -> Result<Seen, AllocError> {
         let op = writing(key, value)?;
-        self.serve(alloc, t, op, pairs)
+        self.operate(alloc, t, op)
     }
 
     fn sets(&self, t: Txn) -> &Sets {

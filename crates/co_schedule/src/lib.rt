@@ -34,7 +34,7 @@ pub use lines::{Lines, MOST_OF_TEXT};
 pub use messages::read_message;
 pub use reading::read_line;
 pub use view::{LeavesView, LineView, key_of, value_of};
-pub use word::long_number_within;
+pub use word::{is_text_of, long_number_within, named_within};
 pub use words::{Piece, Words};
 pub use writing::{
     LONGEST_LINE, append_event, append_head, append_message, append_node, append_number,

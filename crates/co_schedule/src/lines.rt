@@ -83,9 +83,11 @@ impl Lines {
         ensures same { HasSameLimits self.old self.new }
     {
         let used = self.used;
+        let rest = self.buffer.len() - used;
         self.shown = None;
         self.used = 0;
-        drop(self.buffer.drain(..used));
+        self.buffer.copy_within(used.., 0);
+        self.buffer.truncate(rest);
     }
 
     // Takes bytes once, and tells whether there were any.

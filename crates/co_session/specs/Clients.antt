@@ -3,11 +3,19 @@ use Rattle.std.specs.Prelude.{ℕ, Bool, ◌||◌, ◌+◌, ◌++◌, List, [], 
 use Rattle.co_base.specs.Limits.{most_transactions}
 use Rattle.co_base.specs.declared.node.Node.{Node}
 use Rattle.co_base.specs.declared.part.Part.{Part}
+use Rattle.co_base.specs.declared.reply.Reply.{Reply}
+use Rattle.co_serial.specs.declared.site.Site.{Site}
 use Rattle.co_state.specs.Table.{Table, look, put, holds, no_entries}
 use Rattle.co_plain.specs.declared.session.Session.{Session}
 use Rattle.co_plain.specs.declared.session.Told.{Told}
 use Rattle.co_plain.specs.Numbers.{has_number}
 use Rattle.co_plain.specs.Sessions.{count_at, parts_of, begun_by, with_told, asked_to_end}
+
+-- operations with their replies, both the newest first
+abbrev pub joined : List Site → List Reply → List Told
+joined [] replies = []
+joined (site ∷ sites) [] = []
+joined (site ∷ sites) (reply ∷ replies) = record { site = site; reply = reply } ∷ joined sites replies
 
 pub record Clients : Type 0 where
   -- the transactions that were begun in this run, each with its session

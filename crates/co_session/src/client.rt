@@ -1,36 +1,39 @@
 //! The client's side of one transaction.
-ghost use Rattle.std.specs.Prelude.{◌≡◌, ◌+◌, ◌<◌, ◌^◌, reverse, OnOk, OnErr, IfOk};
+ghost use Rattle.std.specs.Prelude.{◌≡◌, ◌+◌, ◌<◌, ◌^◌, map, reverse, OnOk, OnErr, IfOk};
 ghost use Rattle.co_plain.specs.Sessions.{count_at, parts_of, begun_by, with_told, asked_to_end};
 ghost use Rattle.co_session.specs.Leaves.{IsLeave, leave_of, may_be_at};
 
 use crate::fault::SessionFault;
-use co_base::{Node, Part, Parts, count_among, count_one};
-use co_plain::Told;
+use co_base::{Node, Part, Parts, Reply, count_among, count_one};
+use co_serial::Site;
+use co_trace::Trace;
 use std::alloc::{AllocError, Global};
 use std::marker::Model;
 
-/// What is kept of one transaction: the node that decides it, the answered operations with their replies,
-/// how many of them each member answered, and whether it was asked to end.
+/// What is kept of one transaction: the node that decides it, the answered operations, how many of them each
+/// member answered, and whether it was asked to end. Replies were told; they are not kept.
 ///
-/// A contract sees the session, with the newest operation first.
+/// A contract sees the session, with the newest operation first, and with the replies.
 #[derive(Drop)]
 pub struct Client {
     by: Node,
-    told: Vec<Told>,
+    sites: Vec<Site>,
+    replies: Trace<Reply>,
     counts: Vec<Part>,
     asked: bool,
 }
 
 impl Model for Client {
-    ghost use Rattle.std.specs.Prelude.{reverse, ◌≡◌};
+    ghost use Rattle.std.specs.Prelude.{reverse, length, ◌≡◌};
     ghost use Rattle.co_plain.specs.declared.session.Session.{Session};
     ghost use Rattle.co_plain.specs.Sessions.{parts_of};
+    ghost use Rattle.co_session.specs.Clients.{joined};
 
     ghost Value = { Session };
 
-    ghost view = { λ c. record { by = c.by; told = reverse c.told.items; asked = c.asked } };
+    ghost view = { λ c. record { by = c.by; told = joined (reverse c.sites.items) c.replies; asked = c.asked } };
 
-    ghost invariant = { λ c. c.counts.items ≡ parts_of (reverse c.told.items) };
+    ghost invariant = { λ c. (length c.replies ≡ length c.sites.items) × (c.counts.items ≡ parts_of (joined (reverse c.sites.items) c.replies)) };
 }
 
 /// Whether a transaction that this node decides may act at a member, or may end: a local one stays at its own member.
@@ -50,7 +53,8 @@ impl Client {
     {
         Client {
             by,
-            told: Vec::new(alloc),
+            sites: Vec::new(alloc),
+            replies: Trace::new(),
             counts: Vec::new(alloc),
             asked: false,
         }
@@ -64,10 +68,10 @@ impl Client {
     }
 
     /// The answered operations, the first one first.
-    pub(crate) fn told(&self) -> &[Told]
-        ensures { result.now ≡ reverse self.now.told }
+    pub(crate) fn operations(&self) -> &[Site]
+        ensures { result.now ≡ map (λ o. o.site) (reverse self.now.told) }
     {
-        self.told.as_slice()
+        self.sites.as_slice()
     }
 
     /// Whether its client may act at this member, or may ask for its end, and which node decides it.
@@ -99,15 +103,16 @@ impl Client {
     }
 
     /// One more operation was answered. Want of memory leaves the session as it was.
-    pub(crate) fn tell(&mut self, told: Told) -> Result<(), AllocError>
-        requires { count_at self.old.told told.site.member + 1 < 2 ^ 16 }
-        ensures ok { OnOk result (self.new ≡ with_told self.old told) }
+    pub(crate) fn tell(&mut self, site: Site, reply: Reply) -> Result<(), AllocError>
+        requires { count_at self.old.told site.member + 1 < 2 ^ 16 }
+        ensures ok { OnOk result (self.new ≡ with_told self.old (record { site = site; reply = reply })) }
         ensures err { OnErr result (self.new ≡ self.old) }
     {
-        let member = told.site.member;
-        self.told.reserve(1)?;
+        let member = site.member;
+        self.sites.reserve(1)?;
         count_one(&mut self.counts, member)?;
-        self.told.push(told)?;
+        self.sites.push(site)?;
+        self.replies.note(reply);
         Ok(())
     }
 

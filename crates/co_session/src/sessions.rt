@@ -1,5 +1,5 @@
 //! The sessions of this run.
-ghost use Rattle.std.specs.Prelude.{◌≡◌, ◌<◌, ◌≤◌, true, false, length, reverse, OnOk, OnErr, IfOk};
+ghost use Rattle.std.specs.Prelude.{◌≡◌, ◌<◌, ◌≤◌, true, false, length, map, reverse, OnOk, OnErr, IfOk};
 ghost use Rattle.co_base.specs.Limits.{most_members, most_operations};
 ghost use Rattle.co_state.specs.Table.{holds};
 ghost use Rattle.co_session.specs.Clients.{is_used, is_full, none_begun, with_begun, with_answered, with_asked, carried_in, decider_in, parts_in, told_in};
@@ -8,7 +8,6 @@ ghost use Rattle.co_session.specs.Leaves.{IsLeave, IsLeaveToBegin, leave_in};
 use crate::client::Client;
 use crate::fault::SessionFault;
 use co_base::{MOST_TRANSACTIONS, Node, Parts, Reply, Txn, Txns};
-use co_plain::Told;
 use co_serial::Site;
 use indexmap::IndexMap;
 use std::alloc::{AllocError, Global};
@@ -113,14 +112,13 @@ impl Sessions {
         }
     }
 
-    /// The operations of the transaction that were answered, each with its reply, the first one first; none where it was not begun in this
-    /// run. Takes no memory.
-    pub fn told(&self, t: Txn) -> &[Told]
-        ensures { result.now ≡ reverse (told_in self.now t) }
+    /// The operations of the transaction that were answered, the first one first; none where it was not begun in this run. Takes no memory.
+    pub fn operations(&self, t: Txn) -> &[Site]
+        ensures { result.now ≡ map (λ o. o.site) (reverse (told_in self.now t)) }
     {
         match self.begun.get(&t) {
             None => &[],
-            Some(client) => client.told(),
+            Some(client) => client.operations(),
         }
     }
 
@@ -163,7 +161,7 @@ impl Sessions {
         let Some(client) = self.begun.get_mut(&t) else {
             unreachable!()
         };
-        client.tell(Told { site, reply })
+        client.tell(site, reply)
     }
 
     /// The participants of the transaction, ascending by member, each with its count.

@@ -209,7 +209,10 @@ pub fn put_item(item: &Item, into: &mut Vec<u8>) -> Result<(), AllocError>
     ensures ok { OnOk result (into.new.items ≡ into.old.items ++ item_text item.now ++ 10 ∷ []) }
     ensures err { OnErr result (into.new.items ≡ into.old.items) }
 {
-    let mut line = Vec::new(*into.allocator());
-    append_item(&mut line, item)?;
-    into.extend_from_slice(&line)
+    let held = into.len();
+    let appended = append_item(into, item);
+    if appended.is_err() {
+        into.truncate(held);
+    }
+    appended
 }

@@ -1,5 +1,5 @@
 //! The decided transactions of a trial, run one by one in the order of their decisions.
-ghost use Rattle.std.specs.Prelude.{◌≡◌, ◌<◌, ◌+◌, ◌++◌, ◌↔◌, [], ◌∷◌, List, true, map, length, IfOk, OnOk};
+ghost use Rattle.std.specs.Prelude.{◌≡◌, ◌<◌, ◌+◌, ◌++◌, ◌↔◌, [], ◌∷◌, List, true, length, IfOk, OnOk};
 ghost use Rattle.co_plain.specs.declared.session.Decided.{Decided};
 ghost use Rattle.co_plain.specs.Federation.{Federation, decide_all, decided_where, decided_by_kind};
 ghost use Rattle.co_base.specs.Nodes.{same_node};
@@ -13,8 +13,7 @@ ghost use Rattle.co_trial.specs.Decisions.{marks_of, AreRun};
 use co_base::{Mark, MarkKind, Node, Row, Txn};
 use co_engine::Engine;
 use co_message::{Item, ItemKind};
-use co_plain::Told;
-use co_serial::{MemberRow, MemberRows, SerialMap};
+use co_serial::{MemberRow, MemberRows, SerialMap, Site};
 use co_world::World;
 use std::alloc::{AllocError, Global};
 
@@ -74,12 +73,12 @@ impl Decisions {
     }
 
     /// The operations of one more transaction are run whole.
-    fn run(&mut self, told: &[Told]) -> Result<(), AllocError>
-        ensures records { OnOk result (family_of self.new.serial ≡ after_whole (family_of self.old.serial) (map (λ o. o.site) told.now)) }
+    fn run(&mut self, operations: &[Site]) -> Result<(), AllocError>
+        ensures records { OnOk result (family_of self.new.serial ≡ after_whole (family_of self.old.serial) operations.now) }
         ensures count { self.new.txns.items ≡ self.old.txns.items }
     {
-        for operation in told {
-            let _ = self.serial.apply(&operation.site)?;
+        for operation in operations {
+            let _ = self.serial.apply(operation)?;
         }
         Ok(())
     }
@@ -97,7 +96,7 @@ impl Decisions {
         match world.decider(txn) {
             Some(by) => {
                 if is_same(by, at) {
-                    self.run(world.told(txn))?;
+                    self.run(world.operations(txn))?;
                     self.txns.push(txn)?;
                 }
                 Ok(())

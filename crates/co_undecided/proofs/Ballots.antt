@@ -1,143 +1,30 @@
--- The two walks of the graph find the least transaction that holds a vote back.
-use Rattle.std.proofs.Common.{◌≡◌, ◌≢◌, ℕ, Bool, true, false, ◌&&◌, ◌||◌, ◌==◌, not, nat_lt, length, if◌then◌else◌, List, [], ◌∷◌, Option, None, Some, is_some, refl, sym, ap, ◌∙◌, arith}
-use Rattle.std.specs.Prelude.{MatchOption}
-use Rattle.std.proofs.lemmas.Bool.Decides.{nat_tests}
+-- The least transaction that holds a vote back.
+use Rattle.std.proofs.Common.{◌≡◌, ◌≢◌, ℕ, Bool, true, false, ◌&&◌, ◌||◌, ◌==◌, not, length, if◌then◌else◌, List, [], ◌∷◌, Option, None, Some, is_some, refl, sym, ap, subst, ◌∙◌}
 use Rattle.std.proofs.lemmas.List.{nil_from_length}
 use Rattle.co_base.specs.declared.written.Written.{Written}
-use Rattle.co_law_engine.proofs.SetsMade.{meet_turned}
 use Rattle.co_state.specs.declared.engine_state.EngineState.{EngineState}
 use Rattle.co_state.specs.declared.engine_state.Operation.{Operation}
-use Rattle.co_state.specs.declared.engine_state.Sets.{Sets}
 use Rattle.co_state.specs.declared.engine_state.Vote.{Vote}
-use Rattle.co_state.specs.declared.pair.PairKind.TheVariants.{Reads, Writes}
-use Rattle.co_state.specs.Changes.{sets_of, changes_of, spans_of}
-use Rattle.co_state.specs.EngineState.{operations_of, operations_in, sets_at, sets_in}
-use Rattle.co_state.specs.Keys.{reads_meet, writes_meet, least_key}
-use Rattle.co_state.specs.Table.{Table, look, holds, least_where, lesser}
+use Rattle.co_state.specs.Changes.{sets_of}
+use Rattle.co_state.specs.EngineState.{is_undecided, operations_of, operations_in, sets_at, sets_in}
+use Rattle.co_state.specs.Keys.{reads_meet, least_key}
+use Rattle.co_state.specs.Table.{Table, look, without, holds, least_where, lesser}
 use Rattle.co_state.specs.declared.verdict.Verdict.TheVariants.{LostOperations}
 use Rattle.co_state.specs.StaleRead.{stale_keys}
 use Rattle.co_state.specs.VotingRule.{active_holds, voted_holds, holder_of, unless_stale, vote_of}
 use Rattle.co_vote.specs.Ballots.{verdict_on}
 use Rattle.co_plain.specs.declared.member_state.AskedMark.{AskedMark}
-use Rattle.co_graph.specs.PlainGraph.{PlainGraph, voted_in, precedes, precedes_voted, IsWalk}
-use Rattle.co_undecided.specs.Kept.{mark_at, mark_of, entry_at, entry_of, kept_in}
-use Rattle.co_undecided.specs.Represented.{IsGraphOf}
-use Rattle.co_undecided.proofs.Pairs.{no_reads}
-use Rattle.co_undecided.proofs.Least.{least_once, least_of, least_of_both, head_of, walk_least, passed, table_least}
+use Rattle.co_undecided.specs.Kept.{entry_at, entry_of, kept_in}
+use Rattle.co_state.specs.Effects.{after_drop, after_install, install_vote}
+use Rattle.co_state.proofs.Tables.{same_table}
+use Rattle.co_index.specs.declared.index.Index.{Index}
+use Rattle.co_index.specs.Indexed.{TellsOf, IsIndexOf}
+use Rattle.co_undecided.proofs.Numbered.{gone, left, by_number}
+use Rattle.co_undecided.proofs.Least.{least_once, passed, table_least}
 
-same_bool : (a b : Bool) → (a ≡ false → b ≡ false) → (b ≡ false → a ≡ false) → a ≡ b
-same_bool true true f g = refl
-same_bool false false f g = refl
-same_bool true false f g = g refl
-same_bool false true f g = sym (f refl)
-
-both_ways : (a b : List Written) → writes_meet a b ≡ writes_meet b a
-both_ways a b = same_bool (writes_meet a b) (writes_meet b a) (meet_turned a b) (meet_turned b a)
-
--- by whether u is below t or above it, and what of the two is in conflict
-of_voted : (l g r w x : Bool) →
-    ((not (not (l || g)) && r || true && not false && (l && w || g && w)) || true && (not (not (l || g)) && x))
-    ≡ (false || not (not (l || g)) && (r || w || x))
-of_voted true g true w x = refl
-of_voted true true false true x = refl
-of_voted true false false true x = refl
-of_voted true true false false x = refl
-of_voted true false false false x = refl
-of_voted false true true w x = refl
-of_voted false true false true x = refl
-of_voted false true false false x = refl
-of_voted false false true w x = refl
-of_voted false false false true x = refl
-of_voted false false false false x = refl
-
-of_active : (e r : Bool) → ((not e && r || false) || false) ≡ (not e && r || false)
-of_active true r = refl
-of_active false true = refl
-of_active false false = refl
-
-of_absent : (e r : Bool) → r ≡ false → ((not e && r || false) || false) ≡ (false || false)
-of_absent true r n = refl
-of_absent false true n = n
-of_absent false false n = refl
-
-apart_by : (u t : ℕ) → (u == t) ≡ not (nat_lt u t || nat_lt t u)
-apart_by u t = grind (arith, nat_tests)
-
-turned : (u t : ℕ) → (t == u) ≡ (u == t)
-turned u t = grind (arith, nat_tests)
-
--- what the two walks ask of u, by what both did and whether they voted
-abbrev walk_by : Sets → Sets → Bool → Bool → ℕ → ℕ → Bool
-walk_by su st vu vt u t =
-    (not (u == t) && reads_meet su.reads st.writes
-    || vu && not vt && (nat_lt u t && writes_meet su.writes st.writes || nat_lt t u && writes_meet st.writes su.writes))
-    || vu && (not (t == u) && reads_meet st.reads su.writes)
-
-walk_is : (g : PlainGraph) (b : EngineState) (t u : ℕ) → IsGraphOf g b →
-    (precedes g t u || precedes_voted g t u) ≡ walk_by (sets_at b u) (sets_at b t) (voted_in (mark_at b u)) (voted_in (mark_at b t)) u t
-walk_is g b t u is_of =
-    let read = is_of.pairs (record { by = Reads; first = u; second = t }) in
-    let wrote = is_of.pairs (record { by = Writes; first = u; second = t }) in
-    let written = is_of.pairs (record { by = Writes; first = t; second = u }) in
-    let reads = is_of.pairs (record { by = Reads; first = t; second = u }) in
-    let mine = ap voted_in (is_of.noted u) in
-    let its = ap voted_in (is_of.noted t) in
-    cc
-
--- whether u is in the way of t: as an active or as a voted one
-abbrev in_way : EngineState → ℕ → Sets → ℕ → Bool
-in_way b t own u =
-    passed (λ v os. not (v == t) && active_holds own os) u (look b.active u) || passed (λ v vote. not (v == t) && voted_holds own vote.sets) u (look b.voted u)
-
-voted_walk : (su st : Sets) (u t : ℕ) → walk_by su st true false u t ≡ (false || not (u == t) && voted_holds st su)
-voted_walk su st u t =
-    let e = apart_by u t in
-    let f = turned u t in
-    let w = both_ways st.writes su.writes in
-    let h = of_voted (nat_lt u t) (nat_lt t u) (reads_meet su.reads st.writes) (writes_meet su.writes st.writes) (reads_meet st.reads su.writes) in
-    cc
-
-module _ (b : EngineState) (t : ℕ) (unvoted : look b.voted t ≡ None) where
-  own_is : sets_at b t ≡ sets_of (operations_of b t)
-  own_is = ap (λ o. sets_in o (operations_of b t)) unvoted
-
-  not_voted : voted_in (mark_at b t) ≡ false
-  not_voted = by (look b.active t) refl
-    where
-      by : (o : Option (List Operation)) → look b.active t ≡ o → voted_in (mark_of (look b.active t) (look b.voted t)) ≡ false
-      by None e = ap (λ o. voted_in (mark_of o (look b.voted t))) e ∙ ap (λ o. voted_in (mark_of None o)) unvoted
-      by (Some os) e = ap (λ o. voted_in (mark_of o (look b.voted t))) e ∙ ap (λ o. voted_in (mark_of (Some os) o)) unvoted
-
-  walk_by_case : (u : ℕ) (v : Option Vote) (a : Option (List Operation)) → (is_some v ≡ true → a ≡ None) →
-      walk_by (sets_in v (operations_in a)) (sets_of (operations_of b t)) (voted_in (mark_of a v)) false u t
-      ≡ (passed (λ w os. not (w == t) && active_holds (sets_of (operations_of b t)) os) u a
-      || passed (λ w vote. not (w == t) && voted_holds (sets_of (operations_of b t)) vote.sets) u v)
-  walk_by_case u (Some vote) None apart = voted_walk vote.sets (sets_of (operations_of b t)) u t
-  walk_by_case u (Some vote) (Some os) apart = absurd (let q : Some os ≡ None = apart refl in cc)
-  walk_by_case u None (Some os) apart = of_active (u == t) (reads_meet (spans_of os) (changes_of (operations_of b t)))
-  walk_by_case u None None apart = of_absent (u == t) (reads_meet [] (changes_of (operations_of b t))) (no_reads (changes_of (operations_of b t)))
-
-  pub walks_find : (g : PlainGraph) → IsGraphOf g b → ((u : ℕ) → holds b.voted u ≡ true → look b.active u ≡ None) → (before after : List ℕ) →
-      IsWalk (precedes g t) before → IsWalk (precedes_voted g t) after → lesser (head_of before) (head_of after) ≡ holder_of b t (sets_of (operations_of b t))
-  walks_find g is_of apart before after walk walk' =
-      least_once (in_way b t (sets_of (operations_of b t))) _ _
-      (least_of (λ u. precedes g t u || precedes_voted g t u) (in_way b t (sets_of (operations_of b t))) (lesser (head_of before) (head_of after)) same
-      (least_of_both (precedes g t) (precedes_voted g t) (head_of before) (head_of after) (walk_least (precedes g t) before walk) (walk_least (precedes_voted g t) after walk')))
-      (least_of_both _ _ _ _ (table_least (λ w os. not (w == t) && active_holds (sets_of (operations_of b t)) os) b.active)
-      (table_least (λ w vote. not (w == t) && voted_holds (sets_of (operations_of b t)) vote.sets) b.voted))
-    where
-      same : (u : ℕ) → (precedes g t u || precedes_voted g t u) ≡ in_way b t (sets_of (operations_of b t)) u
-      same u =
-          walk_is g b t u is_of
-          ∙ ap (λ s. walk_by (sets_at b u) s (voted_in (mark_at b u)) (voted_in (mark_at b t)) u t) own_is
-          ∙ ap (λ v. walk_by (sets_at b u) (sets_of (operations_of b t)) (voted_in (mark_at b u)) v u t) not_voted
-          ∙ walk_by_case u (look b.voted u) (look b.active u) (apart u)
-
--- ---- the ballot
-
-pub first_given : (r : Option ℕ) (xs ys : List ℕ) → MatchOption r ((xs ≡ []) × (ys ≡ [])) (λ x. xs ≡ x ∷ ys) → r ≡ head_of xs
-first_given None xs ys h = sym (ap head_of h.0)
-first_given (Some x) xs ys h = sym (ap head_of h)
+no_reads : (ws : List Written) → reads_meet [] ws ≡ false
+no_reads [] = refl
+no_reads (w ∷ ws) = no_reads ws
 
 least_none : {X : Type 0} (test : ℕ → X → Bool) (table : Table X) → ((u : ℕ) (x : X) → test u x ≡ false) → least_where test table ≡ None
 least_none {X} test table never = least_once (λ u. passed test u (look table u)) (least_where test table) None (table_least test table) (λ u. by u (look table u))
@@ -182,3 +69,32 @@ module _ (b : EngineState) (asked : Table AskedMark) (t : ℕ) (unvoted : look b
       let empty : operations_of b t ≡ [] = nil_from_length (operations_of b t) (sym kept_is ∙ none) in
       ap (λ h. if 0 == carried then unless_stale None h else LostOperations) (sym (nobody_holds b t))
       ∙ ap (λ os. if length os == carried then unless_stale (least_key (stale_keys b.installed os)) (holder_of b t (sets_of os)) else LostOperations) (sym empty)
+
+module _ (b : EngineState) (t : ℕ) where
+  pub own_sets : look b.voted t ≡ None → sets_at b t ≡ sets_of (operations_of b t)
+  own_sets unvoted = ap (λ v. sets_in v (operations_of b t)) unvoted
+
+  pub active_undecided : holds b.active t ≡ true → is_undecided b t ≡ true
+  active_undecided e = ap (λ c. c || holds b.voted t) e
+
+  pub voted_undecided : holds b.voted t ≡ true → is_undecided b t ≡ true
+  voted_undecided e = right (holds b.active t) (holds b.voted t) e
+    where
+      right : (c d : Bool) → d ≡ true → (c || d) ≡ true
+      right true d h = refl
+      right false d h = h
+
+  -- an installed transaction is gone, as a dropped one is
+  pub index_installed : (vote : Vote) (x : Index) → look b.voted t ≡ Some vote → look b.active t ≡ None → IsIndexOf x (after_drop b t) → IsIndexOf x (after_install b t)
+  index_installed vote x is_voted idle is = λ u.
+      subst (λ m. TellsOf x u (sets_in (look m u) (operations_in (look (after_install b t).active u))) (holds m u)) (sym votes)
+      (subst (λ m. TellsOf x u (sets_in (look (without b.voted t) u) (operations_in (look m u))) (holds (without b.voted t) u)) (sym actives) (is u))
+    where
+      votes : (after_install b t).voted ≡ without b.voted t
+      votes = ap (λ v. (install_vote b t v).voted) is_voted
+
+      actives : (after_install b t).active ≡ without b.active t
+      actives = ap (λ v. (install_vote b t v).active) is_voted ∙ same_table b.active (without b.active t) same
+        where
+          same : (u : ℕ) → look b.active u ≡ look (without b.active t) u
+          same u = by_number (λ u. look b.active u ≡ look (without b.active t) u) t u (idle ∙ sym (gone b.active t)) (λ n. sym (left b.active t u n))

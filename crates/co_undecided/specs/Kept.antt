@@ -1,4 +1,4 @@
--- What is kept of each undecided transaction beside its engine and the graph.
+-- What is kept of each undecided transaction beside its engine and the index.
 use Rattle.std.specs.Prelude.{ℕ, Bool, true, false, nat_lt, List, [], ◌∷◌, ◌++◌, length, Option, None, Some}
 use Rattle.co_state.specs.declared.engine_state.EngineState.{EngineState}
 use Rattle.co_pairs.specs.declared.prepared.Prepared.{Prepared}

@@ -1,4 +1,4 @@
-//! What is kept of an undecided transaction beside its engine and the graph.
+//! What is kept of an undecided transaction beside its engine and the index.
 ghost use Rattle.std.specs.Prelude.{◌≡◌};
 ghost use Rattle.co_undecided.specs.Kept.{asked_in, coord_in, voted_in_entry};
 

@@ -1,10 +1,10 @@
-//! The undecided transactions of one member: its engine, the graph of who precedes whom, and one entry for each transaction.
+//! The undecided transactions of one member: its engine, an index of who touched what, and one entry for each transaction.
 //!
 //! An entry is made with the first operation. After that a mark, a vote and a drop take no memory, so that a member can force its
 //! record first and change what it keeps afterwards.
 //!
 //! **What is proved.** For every engine that meets the contract of all engines, every engine state that it stands for and every table of marks: operations, ballots (the
-//! voting rule, by the two walks of the graph), marks, votes, installs, drops and the readings (marks, coordinators, votes, sets, dumps, the next one
+//! voting rule, by the least transaction in the way that the index finds), marks, votes, installs, drops and the readings (marks, coordinators, votes, sets, dumps, the next one
 //! above a number) are those of the state; the voted ones are walked in order, each with what it read and wrote; votes that are opened again stand as
 //! they were cast.
 #![tactic(auto)]

@@ -1,9 +1,9 @@
 //! The undecided transactions.
 ghost use Rattle.std.specs.Prelude.{◌≡◌, ◌<◌, ◌+◌, IsTrue, false, List, ◌∷◌, ◌++◌, Some, IfOk, OnOk};
-ghost use Rattle.co_pairs.specs.Free.{are_free};
+ghost use Rattle.co_pairs.specs.Free.{are_free, clashes_with};
 ghost use Rattle.co_pairs.specs.Votes.{voted_of};
 ghost use Rattle.co_pairs.specs.declared.prepared.Prepared.{Prepared};
-ghost use Rattle.co_engine.specs.Calls.{may_operate, seen_of, votes_of, AppendsNewPairs};
+ghost use Rattle.co_engine.specs.Calls.{may_operate, seen_of, votes_of};
 ghost use Rattle.co_plain.specs.declared.member_state.AskedMark.{AskedMark};
 ghost use Rattle.co_state.specs.declared.engine_state.EngineState.{EngineState};
 ghost use Rattle.co_state.specs.Effects.{after_operation, after_cast, after_install, after_drop, restored, records_from, dumped_rows, dumped_undos};
@@ -18,8 +18,8 @@ use crate::entries::Entries;
 use crate::entry::{Entry, asked_of, coord_of, voted_of};
 use co_base::{Kind, Op, Rows, Txn};
 use co_engine::{Dump, Engine, Seen};
-use co_graph::Graph;
-use co_pairs::{Pairs, Prepared, PreparedList, Sets};
+use co_index::Index;
+use co_pairs::{Prepared, PreparedList, Sets};
 use co_plain::AskedMark;
 use co_vote::{Ballot, ballot};
 use std::alloc::{AllocError, Global};
@@ -32,27 +32,20 @@ use std::alloc::{AllocError, Global};
 pub struct Undecideds<E> {
     alloc: Global,
     engine: E,
-    graph: Graph,
+    index: Index,
     entries: Entries,
 }
 
-/// An operation at an engine. The new pairs of its transaction are added.
-fn operate<E: Engine>(
-    alloc: Global,
-    engine: &mut E,
-    t: Txn,
-    op: &Op,
-    pairs: &mut Pairs,
-) -> Result<Seen, AllocError>
+/// An operation at an engine.
+fn operate<E: Engine>(alloc: Global, engine: &mut E, t: Txn, op: &Op) -> Result<Seen, AllocError>
     ensures seen { (b : EngineState) → E.stands_for engine.old b → IsTrue (may_operate b t) → IfOk result (λ seen. seen ≡ seen_of b t op.now) }
     ensures state { (b : EngineState) → E.stands_for engine.old b → IsTrue (may_operate b t) → OnOk result (E.stands_for engine.new (after_operation b t op.now)) }
-    ensures pairs { (b : EngineState) → E.stands_for engine.old b → IsTrue (may_operate b t) → OnOk result (AppendsNewPairs b (after_operation b t op.now) pairs.old pairs.new) }
 {
     match op {
-        Op::Read(key) => engine.read(alloc, t, key, pairs),
-        Op::Write(key, value) => engine.write(alloc, t, key, Some(value), pairs),
-        Op::Erase(key) => engine.write(alloc, t, key, None, pairs),
-        Op::Scan(range) => engine.scan(alloc, t, range, pairs),
+        Op::Read(key) => engine.read(alloc, t, key),
+        Op::Write(key, value) => engine.write(alloc, t, key, Some(value)),
+        Op::Erase(key) => engine.write(alloc, t, key, None),
+        Op::Scan(range) => engine.scan(alloc, t, range),
     }
 }
 
@@ -77,12 +70,16 @@ fn one_more(entry: Option<Entry>) -> Entry
     }
 }
 
-/// A voted transaction enters, before those that entered so far.
-fn enter(graph: &mut Graph, entries: &mut Entries, vote: &Prepared) -> Result<(), AllocError>
-    ensures { (ps : List Prepared) → HaveEntered graph.old entries.old ps → OnOk result (HaveEntered graph.new entries.new (vote.now ∷ ps)) }
+/// A voted transaction enters, before those that entered so far, with which it has no conflict.
+fn enter(
+    alloc: Global,
+    index: &mut Index,
+    entries: &mut Entries,
+    vote: &Prepared,
+) -> Result<(), AllocError>
+    ensures { (ps : List Prepared) → HaveEntered index.old entries.old ps → clashes_with vote.now ps ≡ false → OnOk result (HaveEntered index.new entries.new (vote.now ∷ ps)) }
 {
-    graph.note(vote.txn)?;
-    graph.voted(vote.txn);
+    index.enter(alloc, vote)?;
     let entry = Entry::Voted {
         coord: vote.coord,
         count: vote.count,
@@ -102,13 +99,13 @@ impl<E: Engine> Undecideds<E> {
         requires free { IsTrue (are_free voted.now) }
         ensures { IfOk result (λ u. Represents E.stands_for u (restored kind (records_from rows) (votes_of voted.now)) no_entries) }
     {
-        let mut graph = Graph::new(alloc);
+        let mut index = Index::new(alloc);
         let mut entries = Entries::new(alloc);
         let mut left = voted.len();
         while left > 0 {
             left -= 1;
             match voted.get(left) {
-                Some(vote) => enter(&mut graph, &mut entries, vote)?,
+                Some(vote) => enter(alloc, &mut index, &mut entries, vote)?,
                 None => unreachable!(),
             }
         }
@@ -116,7 +113,7 @@ impl<E: Engine> Undecideds<E> {
         Ok(Undecideds {
             alloc,
             engine,
-            graph,
+            index,
             entries,
         })
     }
@@ -210,14 +207,12 @@ impl<E: Engine> Undecideds<E> {
         ensures seen { (b : EngineState) (asked : Table AskedMark) → Represents E.stands_for self.old b asked → IsTrue (may_operate b t) → IfOk result (λ seen. seen ≡ seen_of b t op.now) }
         ensures stands { (b : EngineState) (asked : Table AskedMark) → Represents E.stands_for self.old b asked → IsTrue (may_operate b t) → OnOk result (Represents E.stands_for self.new (after_operation b t op.now) asked) }
     {
-        let mut pairs = Pairs::new(self.alloc);
         let entry = one_more(self.entries.get(t));
-        let seen = operate(self.alloc, &mut self.engine, t, op, &mut pairs)?;
+        let seen = operate(self.alloc, &mut self.engine, t, op)?;
         match seen {
             Seen::Blocked(u) => Ok(Seen::Blocked(u)),
             Seen::Answer(reply) => {
-                self.graph.note(t)?;
-                self.graph.add(pairs.as_slice())?;
+                self.index.note(self.alloc, op, t)?;
                 self.entries.put(t, entry)?;
                 Ok(Seen::Answer(reply))
             }
@@ -231,11 +226,10 @@ impl<E: Engine> Undecideds<E> {
     {
         let kept = self.kept(t);
         if kept == 0 {
-            return ballot(kept, carried, None, None, None);
+            return ballot(kept, carried, None, None);
         }
-        let before = self.graph.before(t).next();
-        let after = self.graph.voted_after(t).next();
-        ballot(kept, carried, self.engine.stale(t), before, after)
+        let holder = self.index.holder(t, self.engine.sets(t));
+        ballot(kept, carried, self.engine.stale(t), holder)
     }
 
     /// An active transaction was asked for its vote, which is held. Takes no memory.
@@ -256,8 +250,8 @@ impl<E: Engine> Undecideds<E> {
     pub fn cast(&mut self, t: Txn, coord: u8, count: u16)
         ensures { (b : EngineState) (asked : Table AskedMark) → Represents E.stands_for self.old b asked → IsTrue (holds b.active t) → holds b.voted t ≡ false → Represents E.stands_for self.new (after_cast b t coord count) (without asked t) }
     {
+        self.index.cast(self.engine.sets(t), t);
         self.engine.cast(t);
-        self.graph.voted(t);
         self.entries.change(t, Entry::Voted { coord, count });
     }
 
@@ -265,8 +259,8 @@ impl<E: Engine> Undecideds<E> {
     pub fn install(&mut self, t: Txn) -> Result<(), AllocError>
         ensures { (b : EngineState) (asked : Table AskedMark) → Represents E.stands_for self.old b asked → IsTrue (holds b.voted t) → holds b.active t ≡ false → OnOk result (Represents E.stands_for self.new (after_install b t) asked) }
     {
+        self.index.forget(self.engine.sets(t), t);
         self.engine.install(self.alloc, t)?;
-        self.graph.remove(t);
         self.entries.take(t);
         Ok(())
     }
@@ -275,8 +269,8 @@ impl<E: Engine> Undecideds<E> {
     pub fn drop_txn(&mut self, t: Txn)
         ensures { (b : EngineState) (asked : Table AskedMark) → Represents E.stands_for self.old b asked → IsTrue (is_undecided b t) → Represents E.stands_for self.new (after_drop b t) (without asked t) }
     {
+        self.index.forget(self.engine.sets(t), t);
         self.engine.drop_txn(t);
-        self.graph.remove(t);
         self.entries.take(t);
     }
 }

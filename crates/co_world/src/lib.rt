@@ -17,8 +17,7 @@
 //! - `Count` comes exactly where the event begins a transaction whose number is neither begun nor used, and 65,536 are (`limit`, a definition over
 //!   the plain federation; `count`, by what is kept of the clients).
 //! - All readings and lists of the nodes are those of `co_cluster`; beside them it tells what a client carries at a member (`carried`), which
-//!   operations of a transaction were answered, with their replies (`told`), how many transactions were begun (`begun`) and which node decides one
-//!   (`decider`).
+//!   operations of a transaction were answered (`operations`), how many transactions were begun (`begun`) and which node decides one (`decider`).
 //! - `hand` gives a member a verdict and is the step of the definitions for it, with all that is said of `step`.
 #![tactic(auto)]
 

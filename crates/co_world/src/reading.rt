@@ -1,5 +1,5 @@
 //! What a federation tells of its nodes and of its clients.
-ghost use Rattle.std.specs.Prelude.{◌≡◌, ◌≤◌, ℕ, true, false, length, reverse, MatchOption, IsTrue, ◌↔◌};
+ghost use Rattle.std.specs.Prelude.{◌≡◌, ◌≤◌, ℕ, true, false, length, map, reverse, MatchOption, IsTrue, ◌↔◌};
 ghost use Rattle.co_base.specs.declared.node.Node.{Node as PlainNode};
 ghost use Rattle.co_member.specs.Reading.{phase_of};
 ghost use Rattle.co_plain.specs.Federation.{Federation};
@@ -19,7 +19,7 @@ use crate::world::World;
 use co_base::{Node, Txn};
 use co_cluster::{Due, Exchange};
 use co_engine::Engine;
-use co_plain::Told;
+use co_serial::Site;
 use co_vote::Phase;
 
 impl<E: Engine + Drop> World<E> {
@@ -103,12 +103,11 @@ impl<E: Engine + Drop> World<E> {
         self.sessions.carried(t, member)
     }
 
-    /// The operations of a transaction that were answered in this run, each with its reply, the first one first; none where it was not begun in
-    /// it. Takes no memory.
-    pub fn told(&self, t: Txn) -> &[Told]
-        ensures { (s : Federation) → RepresentsWorld E.takes E.stands_for self.now s → result.now ≡ reverse (told_of (look s.sessions t)) }
+    /// The operations of a transaction that were answered in this run, the first one first; none where it was not begun in it. Takes no memory.
+    pub fn operations(&self, t: Txn) -> &[Site]
+        ensures { (s : Federation) → RepresentsWorld E.takes E.stands_for self.now s → result.now ≡ map (λ o. o.site) (reverse (told_of (look s.sessions t))) }
     {
-        self.sessions.told(t)
+        self.sessions.operations(t)
     }
 
     /// How many transactions were begun in this run. Takes no memory.

@@ -1,4 +1,4 @@
-use Rattle.std.proofs.Common.{◌≡◌, ◌∙◌, ap, subst, reverse}
+use Rattle.std.proofs.Common.{◌∙◌, ap, subst, reverse}
 use Rattle.co_order.specs.Answer.{IsAnswered}
 use Rattle.co_order.proofs.Ordered.{answered, kept_is}
 use Rattle.co_order.proofs.judge.answer_ending.Goals as goal

@@ -1,19 +1,15 @@
-use Rattle.std.proofs.Common.{◌∷◌, sym, subst}
-use Rattle.co_graph.specs.PlainGraph.{with_noted, with_voted}
+use Rattle.std.proofs.Common.{ap, ◌∙◌}
+use Rattle.co_state.specs.Effects.{restored}
+use Rattle.co_state.specs.Table.{look}
 use Rattle.co_state.proofs.Tables.{on_ok}
-use Rattle.co_undecided.proofs.Restoring.{one_vote}
-use Rattle.co_undecided.specs.Represented.{HasVotes}
-use Rattle.co_undecided.proofs.Restoring.{noted_then}
+use Rattle.co_pairs.specs.Votes.{votes_of}
+use Rattle.co_undecided.proofs.Restoring.{one_vote, not_there}
 use Rattle.co_undecided.proofs.undecideds.enter.Goals as goal
 
 pub returns : goal.returns
-returns c = λ ps so_far.
-    let t = c.args.vote.now.txn in
-    let shown = c.in_ok-note.ensures so_far.plain so_far.shown in
-    let marked = c.voted.ensures (with_noted so_far.plain t) shown (noted_then so_far.plain t) in
-    let votes = one_vote so_far.plain c.args.entries.now c.args.vote.now ps so_far.votes in
+returns c = λ ps so_far clear.
+    let p = c.args.vote.now in
     on_ok c.put.result (λ e. record {
-      plain = with_voted (with_noted so_far.plain t) t;
-      shown = marked;
-      votes = subst (λ es. HasVotes (with_voted (with_noted so_far.plain t) t) es (c.args.vote.now ∷ ps)) (sym e) votes;
+      indexed = λ kind records. c.in_ok-enter.ensures (restored kind records (votes_of ps)) (so_far.indexed kind records) (not_there kind records p ps clear);
+      entries = λ t. ap (λ es. look es t) e ∙ one_vote c.args.entries.now p ps so_far.entries t;
     }) c.put.ensures

@@ -3,8 +3,8 @@ use Rattle.co_files.proofs.Files.{missing, absent}
 use Rattle.co_files.proofs.Attended.{none_before}
 use Rattle.co_files.proofs.folder.Folder.cut.Goals as goal
 
-pub returns-then-len-eq0-clause-called : goal.returns-then-len-eq0-clause-called
-returns-then-len-eq0-clause-called c =
+pub returns-in-None-clause-called : goal.returns-in-None-clause-called
+returns-in-None-clause-called c =
     let files = c.attend.new.self.files.items in
     let empty = absent c.args.spot files (missing c.args.spot files (search rules)) in
     let none = none_before c.in_ok-attend.ensures.attended empty in

@@ -5,10 +5,7 @@ use Rattle.co_state.specs.ReadRule.{snapshot_of}
 use Rattle.co_state.specs.Table.{Table, look, put}
 use Rattle.co_engine.specs.declared.undecided.Undecided.{Undecided}
 use Rattle.co_lock.specs.LockedState.{with_read}
-use Rattle.co_index.proofs.Indexing.{tells_along}
-use Rattle.co_lock.proofs.Reading.{tells_read}
 use Rattle.co_engine.specs.Undecided.{IsKept}
-use Rattle.co_lock.specs.Standing.{reads_alone}
 use Rattle.co_lock.proofs.Fitting.{fits_read}
 use Rattle.co_engine.proofs.Answering.{not_voted}
 use Rattle.co_lock.proofs.Rolling.{each_read}
@@ -28,6 +25,5 @@ returns c = λ b op s may reads writes none.
       place = with_read s.place t c.args.range;
       locked = c.in_ok-read.ensures s.place s.locked;
       fits = fits_read s.place b t op s.fits s.kind_is voted c.args.range reads writes (clear_read old b t op c.args.range s reads none);
-      indexed = tells_along reads_alone (sym c.in_ok-add_read.ensures) (sym e) (tells_read old.readers old.roll t c.args.range s.indexed);
     })
     c.note_read.ensures

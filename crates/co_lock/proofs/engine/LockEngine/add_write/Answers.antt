@@ -1,27 +1,20 @@
-use Rattle.std.proofs.Common.{ℕ, List, Option, ◌∷◌, refl, sym, subst}
+use Rattle.std.proofs.Common.{ℕ, List, Option, ◌∷◌, sym, subst}
 use Rattle.co_state.proofs.Tables.{on_ok}
-use Rattle.co_state.specs.declared.pair.Pair.{Pair}
-use Rattle.co_state.specs.Conflicts.{AreNewPairs}
-use Rattle.co_state.specs.Effects.{with_operation}
 use Rattle.co_state.specs.EngineState.{operations_of}
 use Rattle.co_state.specs.ReadRule.{snapshot_of}
 use Rattle.co_state.specs.Table.{Table, look, put}
 use Rattle.co_engine.specs.declared.undecided.Undecided.{Undecided}
 use Rattle.co_lock.specs.Locked.{IsLocked}
 use Rattle.co_lock.specs.LockedState.{with_write}
-use Rattle.co_index.proofs.Indexing.{tells_along}
-use Rattle.co_lock.proofs.Reading.{tells_write}
 use Rattle.co_engine.specs.Undecided.{IsKept}
-use Rattle.co_lock.specs.Standing.{reads_alone}
 use Rattle.co_lock.proofs.Fitting.{fits_write}
-use Rattle.co_engine.proofs.Joining.{if_ok}
 use Rattle.co_engine.proofs.Answering.{not_voted}
 use Rattle.co_lock.proofs.Rolling.{each_write}
-use Rattle.co_lock.proofs.Standing.{clear_write, alone_in, pairs_of_write}
+use Rattle.co_lock.proofs.Standing.{clear_write, alone_in}
 use Rattle.co_lock.proofs.engine.LockEngine.add_write.Goals as goal
 
-pub returns-clause-state : goal.returns-clause-state
-returns-clause-state c = λ b op s may reads writes none.
+pub returns : goal.returns
+returns c = λ b op s may reads writes none.
     let old = c.args.self.now in
     let t = c.args.t in
     let change = c.args.change in
@@ -34,17 +27,5 @@ returns-clause-state c = λ b op s may reads writes none.
       place = with_write s.place t change.key change.value;
       locked = subst (λ (v : Option (List ℕ)). IsLocked c.write.new.self (with_write s.place t change.key v)) c.lent.ensures (c.in_ok-write.ensures s.place s.locked (alone_in old b t op change s writes none));
       fits = fits_write s.place b t op s.fits s.kind_is voted change reads writes (clear_write old b t op change s writes none);
-      indexed = tells_along reads_alone refl (sym e) (tells_write old.readers old.roll t change s.indexed);
     })
-    c.note_write.ensures.roll
-
-pub returns-clause-pairs : goal.returns-clause-pairs
-returns-clause-pairs c = λ b op s may reads writes none.
-    let old = c.args.self.now in
-    let t = c.args.t in
-    let change = c.args.change in
-    if_ok c.note_write.result
-    (λ pairs e. subst (λ (ps : List Pair). AreNewPairs b (with_operation b t op) ps) (sym e)
-    (pairs_of_write old b t op change s may reads writes none c.write.new.self
-    (subst (λ (v : Option (List ℕ)). IsLocked c.write.new.self (with_write s.place t change.key v)) c.lent.ensures (c.in_ok-write.ensures s.place s.locked (alone_in old b t op change s writes none)))))
-    (c.note_write.ensures.pairs s.indexed)
+    c.note_write.ensures

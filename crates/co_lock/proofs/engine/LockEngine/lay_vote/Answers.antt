@@ -12,10 +12,7 @@ use Rattle.co_engine.specs.Calls.{votes_of, vote_in}
 use Rattle.co_engine.specs.declared.undecided.Undecided.{Undecided}
 use Rattle.co_lock.specs.Locked.{IsLocked}
 use Rattle.co_lock.specs.LockedState.{with_writes}
-use Rattle.co_index.proofs.Indexing.{tells_along}
-use Rattle.co_lock.proofs.Reading.{tells_prepared}
 use Rattle.co_engine.specs.Undecided.{IsKept}
-use Rattle.co_lock.specs.Standing.{reads_alone}
 use Rattle.co_lock.proofs.Restoring.{alone, fits_laid}
 use Rattle.co_engine.proofs.Rolling.{each_voted}
 use Rattle.co_lock.proofs.engine.LockEngine.lay_vote.Goals as goal
@@ -35,6 +32,5 @@ returns c = λ rows ps s free.
       locked = subst (λ (ws : List Written). IsLocked c.lay_changes.new.place (with_writes s.place p.txn ws)) c.writes.ensures
           (c.in_ok-lay_changes.ensures s.place s.locked (λ q w. alone s.place records p ps s.fits free q (ap (λ ws. writes_key ws q) (sym c.writes.ensures) ∙ w)));
       fits = fits_laid s.place records p ps s.fits free;
-      indexed = tells_along reads_alone (sym c.in_ok-add_sets.ensures) (sym (e ∙ ap (λ (sets : Sets). put old.roll p.txn (record { voted = true; sets = sets })) c.in_ok-copy.ensures)) (tells_prepared old.readers old.roll p.txn p.sets s.indexed);
     })
     c.put.ensures

@@ -1,10 +1,8 @@
-use Rattle.std.proofs.Common.{◌≡◌, List, Option, None, Some, sym, ap, ◌∙◌, subst}
-use Rattle.co_state.specs.declared.pair.Pair.{Pair}
-use Rattle.co_state.specs.Conflicts.{AreNewPairs}
+use Rattle.std.proofs.Common.{◌≡◌, Option, None, Some, sym, ap, ◌∙◌, subst}
 use Rattle.co_state.specs.LockRule.{lock_blocker}
 use Rattle.co_engine.specs.declared.answers.Seen.TheVariants.{Answer}
 use Rattle.co_lock.specs.Standing.{StandsFor}
-use Rattle.co_engine.proofs.Answering.{seen_alike, after_seen, nothing_new}
+use Rattle.co_engine.proofs.Answering.{seen_alike, after_seen}
 use Rattle.co_lock.proofs.engine.LockEngine.operate.Goals as goal
 
 pub returns-in-Some-clause-seen : goal.returns-in-Some-clause-seen
@@ -15,11 +13,6 @@ pub returns-in-Some-clause-state : goal.returns-in-Some-clause-state
 returns-in-Some-clause-state c = λ b s h.
     subst (λ (o : Option _). StandsFor c.args.self.now (after_seen b c.args.t c.args.op o)) (sym c.in-Some.is ∙ c.in_ok-found.ensures b s) s
 
-pub returns-in-Some-clause-pairs : goal.returns-in-Some-clause-pairs
-returns-in-Some-clause-pairs c = λ b s h.
-    subst (λ (o : Option _). AreNewPairs b (after_seen b c.args.t c.args.op o) c.new.result) (sym c.in-Some.is ∙ c.in_ok-found.ensures b s)
-    (subst (λ (ps : List Pair). AreNewPairs b b ps) (sym c.new.ensures) (nothing_new b))
-
 pub returns-clause-seen : goal.returns-clause-seen
 returns-clause-seen c = λ b s h.
     let none : lock_blocker b c.args.t c.args.op ≡ None = sym (c.in_ok-found.ensures b s) ∙ c.in_default.is in
@@ -28,9 +21,4 @@ returns-clause-seen c = λ b s h.
 pub returns-clause-state : goal.returns-clause-state
 returns-clause-state c = λ b s h.
     let none : lock_blocker b c.args.t c.args.op ≡ None = sym (c.in_ok-found.ensures b s) ∙ c.in_default.is in
-    subst (λ (o : Option _). StandsFor c.add.new.self (after_seen b c.args.t c.args.op o)) (sym none) (c.in_ok-pairs.ensures.state b s h none)
-
-pub returns-clause-pairs : goal.returns-clause-pairs
-returns-clause-pairs c = λ b s h.
-    let none : lock_blocker b c.args.t c.args.op ≡ None = sym (c.in_ok-found.ensures b s) ∙ c.in_default.is in
-    subst (λ (o : Option _). AreNewPairs b (after_seen b c.args.t c.args.op o) c.in_ok-pairs.pairs) (sym none) (c.in_ok-pairs.ensures.pairs b s h none)
+    subst (λ (o : Option _). StandsFor c.add.new.self (after_seen b c.args.t c.args.op o)) (sym none) (c.in_ok-add.ensures b s h none)

@@ -1,12 +1,9 @@
-use Rattle.std.proofs.Common.{refl, sym, subst}
+use Rattle.std.proofs.Common.{sym, subst}
 use Rattle.co_state.specs.Table.{Table, look, put, without}
 use Rattle.co_state.specs.Changes.{sets_of}
 use Rattle.co_state.specs.EngineState.{operations_of}
 use Rattle.co_engine.specs.declared.undecided.Undecided.{Undecided}
-use Rattle.co_index.proofs.Indexing.{tells_along}
-use Rattle.co_lock.proofs.Reading.{tells_vote}
 use Rattle.co_engine.specs.Undecided.{IsKept}
-use Rattle.co_lock.specs.Standing.{reads_alone}
 use Rattle.co_lock.specs.LockedState.{without_reads}
 use Rattle.co_engine.proofs.Rolling.{each_cast}
 use Rattle.co_lock.proofs.Standing.{fits_vote}
@@ -22,5 +19,4 @@ returns c = λ b coord count s h.
       place = without_reads s.place t;
       locked = c.end_reads.ensures s.place s.locked;
       fits = fits_vote c.args.self.now b t coord count s h;
-      indexed = tells_along reads_alone refl (sym c.cast.ensures) (tells_vote c.args.self.now.readers c.args.self.now.roll t s.indexed);
     }

@@ -9,8 +9,7 @@ use Rattle.co_state.specs.Effects.{restored, records_from}
 use Rattle.co_state.specs.Table.{look}
 use Rattle.co_engine.specs.Calls.{votes_of}
 use Rattle.co_lock.specs.LockedState.{of_records}
-use Rattle.co_index.proofs.Indexing.{tells_none}
-use Rattle.co_lock.specs.Standing.{StandsFor, reads_alone}
+use Rattle.co_lock.specs.Standing.{StandsFor}
 use Rattle.co_lock.proofs.Restoring.{fits_start, next_laid, next_free}
 use Rattle.co_engine.proofs.Rolling.{kept_along, nothing_kept}
 use Rattle.co_lock.proofs.engine.LockEngineEngine.restore.Goals as goal
@@ -18,17 +17,16 @@ use Rattle.co_lock.proofs.engine.LockEngineEngine.restore.Goals as goal
 pub loop-place-init : goal.loop-place-init
 loop-place-init c =
     let records = records_from c.args.rows in
-    let start : StandsFor (record { place = c.in_ok-of_rows.field-0; roll = c.new.result; readers = c.new-2.result; nothing = c.new-3.result }) (restored Lock records (votes_of [])) = record {
+    let start : StandsFor (record { place = c.in_ok-of_rows.field-0; roll = c.new.result; nothing = c.new-2.result }) (restored Lock records (votes_of [])) = record {
       kind_is = refl;
       each = λ u. kept_along (sym (ap (λ m. look m u) c.new.ensures ∙ get-empty nat_cmp u)) (sym (get-empty nat_cmp u)) (sym (get-empty nat_cmp u)) nothing_kept;
       place = of_records records;
       locked = c.in_ok-of_rows.ensures;
       fits = fits_start records;
-      indexed = tells_none reads_alone c.new-2.result c.new.result c.new.ensures;
     } in
     record {
       within = omega arith;
-      laid = subst (λ (ps : List Prepared). StandsFor (record { place = c.in_ok-of_rows.field-0; roll = c.new.result; readers = c.new-2.result; nothing = c.new-3.result }) (restored Lock records (votes_of ps))) (sym (drop_all (length c.args.voted.now) c.args.voted.now (omega arith))) start;
+      laid = subst (λ (ps : List Prepared). StandsFor (record { place = c.in_ok-of_rows.field-0; roll = c.new.result; nothing = c.new-2.result }) (restored Lock records (votes_of ps))) (sym (drop_all (length c.args.voted.now) c.args.voted.now (omega arith))) start;
     }
 
 pub loop-place-preserved : goal.loop-place-preserved

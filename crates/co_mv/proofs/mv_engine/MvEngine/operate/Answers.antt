@@ -3,7 +3,6 @@ use Rattle.co_engine.specs.declared.answers.Seen.TheVariants.{Answer}
 use Rattle.co_engine.specs.Calls.{seen_by}
 use Rattle.co_mv.specs.Kept.{StandsFor}
 use Rattle.co_mv.proofs.Standing.{not_blocked}
-use Rattle.co_state.specs.Conflicts.{AreNewPairs}
 use Rattle.co_state.specs.Effects.{with_operation}
 use Rattle.co_state.specs.ReadRule.{operation_reply}
 use Rattle.co_mv.proofs.mv_engine.MvEngine.operate.Goals as goal
@@ -14,8 +13,4 @@ returns-clause-seen c = λ b s h.
 
 pub returns-clause-state : goal.returns-clause-state
 returns-clause-state c = λ b s h.
-    subst (λ (o : Option ℕ). StandsFor c.add.new.self (if is_some o then b else with_operation b c.args.t c.args.op.now)) (not_blocked c.args.self.now b c.args.t c.args.op.now s) (c.in_ok-pairs.ensures.state b s h)
-
-pub returns-clause-pairs : goal.returns-clause-pairs
-returns-clause-pairs c = λ b s h.
-    subst (λ (o : Option ℕ). AreNewPairs b (if is_some o then b else with_operation b c.args.t c.args.op.now) c.in_ok-pairs.pairs) (not_blocked c.args.self.now b c.args.t c.args.op.now s) (c.in_ok-pairs.ensures.pairs b s h)
+    subst (λ (o : Option ℕ). StandsFor c.add.new.self (if is_some o then b else with_operation b c.args.t c.args.op.now)) (not_blocked c.args.self.now b c.args.t c.args.op.now s) (c.in_ok-add.ensures b s h)

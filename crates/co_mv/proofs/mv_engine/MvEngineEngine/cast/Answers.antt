@@ -3,4 +3,4 @@ use Rattle.co_mv.proofs.Standing.{stands_cast}
 use Rattle.co_mv.proofs.mv_engine.MvEngineEngine.cast.Goals as goal
 
 pub returns : goal.returns
-returns c = λ b coord count s h. stands_cast c.args.self.now _ b c.args.t coord count s h c.leave.ensures.snapshots (c.leave.ensures.keeps b.base b.installed s.keeps) refl s.whole
+returns c = λ b coord count s h. stands_cast c.args.self.now _ b c.args.t coord count s h c.leave.ensures.snapshots (c.leave.ensures.keeps b.base b.installed s.keeps) refl

@@ -9,10 +9,10 @@ pub returns-in-Some : goal.returns-in-Some
 returns-in-Some c = λ b s h.
     let t = c.args.t in
     on_both c.install.result
-    (λ es k. stands_install c.args.self.now _ b t c.in-Some.sets s h (sym c.take.ensures.value ∙ c.in-Some.is) es
+    (λ es k. stands_install c.args.self.now _ b t c.in-Some.sets s h (sym c.remove.ensures.entry ∙ c.in-Some.is) es
     (subst (λ (ws : List Written). Keeps c.install.new.self b.base (record { txn = t; writes = ws } ∷ b.installed)) c.writes.ensures k)
-    c.take.ensures.rest (c.take.ensures.whole s.whole))
+    c.remove.ensures.rest)
     c.install.ensures.snapshots (c.install.ensures.keeps b.base b.installed t s.keeps)
 
 pub returns-in-None : goal.returns-in-None
-returns-in-None c = λ b s h. install_absent c.args.self.now b c.args.t s h (sym c.take.ensures.value ∙ c.in-None.is)
+returns-in-None c = λ b s h. install_absent c.args.self.now b c.args.t s h (sym c.remove.ensures.entry ∙ c.in-None.is)

@@ -2,7 +2,7 @@ use Rattle.std.proofs.Common.{sym, ap, ◌∙◌}
 use Rattle.std.specs.FinMap.{entries}
 use Rattle.co_state.specs.Keys.{least_key}
 use Rattle.co_mv.specs.Overwritten.{written_within}
-use Rattle.co_pairs.specs.NewPairs.{or_nothing}
+use Rattle.co_engine.specs.Undecided.{or_nothing}
 use Rattle.co_mv.proofs.Standing.{stale_alike, stale_absent}
 use Rattle.co_mv.proofs.mv_engine.MvEngineEngine.stale.Goals as goal
 

@@ -8,4 +8,4 @@ use Rattle.co_occ.proofs.engine.OccEngineEngine.drop_txn.Goals as goal
 pub returns : goal.returns
 returns c = λ b s h.
     subst (λ (o : OccEngine). StandsFor o (after_drop b c.args.t)) (sym c.forget_old.ensures.rest)
-    (stands_drop c.args.self.now b c.args.t _ _ _ s c.take.ensures.rest c.take-2.ensures.rest (c.take-2.ensures.whole s.keeps.whole) (c.forget_old.ensures.lasts s.lasts_are))
+    (stands_drop c.args.self.now b c.args.t _ _ _ s c.take.ensures.rest c.remove.ensures.rest (c.forget_old.ensures.lasts s.lasts_are))

@@ -18,22 +18,22 @@ returns c = λ b s h.
       recent = c.push.new.self;
       lasts = c.note.new.lasts;
       reads = o.reads;
-      undecided = c.take.new.self;
+      undecided = c.remove.new.self;
       nothing = o.nothing;
     } in
-    let is : made ≡ installed_with o c.take.new.self ws = (λ i. record o {
+    let is : made ≡ installed_with o c.remove.new.self ws = (λ i. record o {
       records = (c.in_ok-lay.ensures ∙ ap (with_changes o.records) c.as_slice.ensures) i;
       installs = c.in_ok-self.ensures i;
       recent = c.in_ok-push.ensures i;
       lasts = (c.in_ok-note.ensures ∙ (λ j. noted o.lasts (c.as_slice-2.ensures j) (c.in_ok-self.ensures j))) i;
-      undecided = c.take.new.self;
+      undecided = c.remove.new.self;
     }) in
     let lasts : AreLast c.forget_old.new.self.lasts (recent_needed made) made.installs =
     c.forget_old.ensures.lasts (subst (λ (e : OccEngine). AreLast e.lasts e.recent e.installs) (sym is) (are_noted o.lasts o.recent o.installs ws s.lasts_are)) in
     subst (λ (next : OccEngine). StandsFor next (after_install b c.args.t))
     (sym (c.forget_old.ensures.rest ∙ (λ i. with_needed (is i) c.forget_old.new.self.lasts)))
-    (stands_install o b c.args.t c.in-Some.sets c.take.new.self c.forget_old.new.self.lasts s h (sym c.take.ensures.value ∙ c.in-Some.is) c.take.ensures.rest (c.take.ensures.whole s.keeps.whole)
+    (stands_install o b c.args.t c.in-Some.sets c.remove.new.self c.forget_old.new.self.lasts s h (sym c.remove.ensures.entry ∙ c.in-Some.is) c.remove.ensures.rest
     (subst (λ (e : OccEngine). AreLast c.forget_old.new.self.lasts (recent_needed e) e.installs) is lasts))
 
 pub returns-in_default : goal.returns-in_default
-returns-in_default c = λ b s h. install_absent c.args.self.now b c.args.t s h (sym c.take.ensures.value ∙ c.in_default.is)
+returns-in_default c = λ b s h. install_absent c.args.self.now b c.args.t s h (sym c.remove.ensures.entry ∙ c.in_default.is)

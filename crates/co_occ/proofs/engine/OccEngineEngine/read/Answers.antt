@@ -2,7 +2,7 @@ use Rattle.std.proofs.Common.{ap, ◌∙◌}
 use Rattle.co_base.specs.declared.op.Op.TheVariants.{Read}
 use Rattle.co_base.specs.declared.reply.Reply.TheVariants.{Got}
 use Rattle.co_engine.specs.declared.answers.Seen.TheVariants.{Answer}
-use Rattle.co_occ.proofs.Standing.{seen_alike, stands_after, appends}
+use Rattle.co_occ.proofs.Standing.{seen_alike, stands_after}
 use Rattle.co_occ.proofs.engine.OccEngineEngine.read.Goals as goal
 
 pub returns-clause-seen : goal.returns-clause-seen
@@ -11,8 +11,4 @@ returns-clause-seen c = λ b s h.
 
 pub returns-clause-state : goal.returns-clause-state
 returns-clause-state c = λ b s h.
-    stands_after c.args.self.now _ b c.args.t (Read c.args.key.now) _ s (ap Read c.in_ok-copy.ensures) (c.in_ok-made.ensures.state b s h)
-
-pub returns-clause-pairs : goal.returns-clause-pairs
-returns-clause-pairs c = λ b s h.
-    appends c.args.self.now b c.args.t (Read c.args.key.now) _ _ _ c.in_ok-made.made s (ap Read c.in_ok-copy.ensures) c.in_ok-append.ensures.ok (c.in_ok-made.ensures.pairs b s h)
+    stands_after c.args.self.now _ b c.args.t (Read c.args.key.now) _ s (ap Read c.in_ok-copy.ensures) (c.in_ok-add.ensures b s h)

@@ -1,10 +1,9 @@
 use Rattle.std.proofs.Common.{◌≡◌, None, sym, ap, ◌∙◌}
 use Rattle.co_state.specs.Table.{look, without, holds}
-use Rattle.co_graph.specs.PlainGraph.{with_removed}
 use Rattle.co_undecided.specs.Kept.{entry_of}
 use Rattle.co_state.specs.Effects.{after_install, install_vote}
 use Rattle.co_undecided.proofs.Numbered.{gone, left}
-use Rattle.co_undecided.proofs.Graphs.{installed_graph}
+use Rattle.co_undecided.proofs.Ballots.{voted_undecided, index_installed}
 use Rattle.co_undecided.proofs.Entering.{taken}
 use Rattle.co_undecided.proofs.Standing.{not_held, held, installed_apart}
 use Rattle.co_undecided.proofs.undecideds.Undecideds.install.Goals as goal
@@ -18,11 +17,7 @@ returns g c = λ b asked r is_voted inactive.
     let actives : (after_install b t).active ≡ b.active = ap (λ v. (install_vote b t v).active) vote.1 in
     record {
       engine = c.in_ok-install.ensures b r.engine is_voted;
-      graph = record {
-        plain = with_removed r.graph.plain t;
-        shown = c.remove.ensures r.graph.plain r.graph.shown;
-        is_of = installed_graph b t vote.0 r.graph.plain vote.1 idle r.graph.is_of;
-      };
+      index = index_installed b t vote.0 c.forget.new.self vote.1 idle (c.forget.ensures b r.index (c.sets.ensures b r.engine (voted_undecided b t is_voted)));
       entries = λ u. ap (λ es. look es u) c.take.ensures ∙ taken b asked _ t r.entries (after_install b t) asked
           (ap (λ m. entry_of (look m t) (look (after_install b t).voted t) (look asked t)) actives ∙ ap (λ m. entry_of (look b.active t) (look m t) (look asked t)) votes
           ∙ ap (λ a. entry_of a (look (without b.voted t) t) (look asked t)) idle ∙ ap (λ v. entry_of None v (look asked t)) (gone b.voted t))

@@ -13,7 +13,7 @@ returns g c = λ b asked r active unvoted.
     let os = held (look b.active t) active in
     record {
       engine = r.engine;
-      graph = record { plain = r.graph.plain; shown = r.graph.shown; is_of = r.graph.is_of };
+      index = r.index;
       entries = λ u. ap (λ es. look es u) c.change.ensures
           ∙ ap (λ n. look (changed c.args.self.now.entries t (Active n (Some c.args.mark)) (look c.args.self.now.entries t)) u) c.kept-kept.ensures.shown ∙ marked b asked _ t r.entries c.args.mark os.0 idle os.1 u;
       apart = r.apart;

@@ -2,20 +2,15 @@ use Rattle.std.proofs.Common.{◌≡◌, ℕ, Bool, true, false, List, ◌∷◌
 use Rattle.co_state.specs.declared.engine_state.Operation.{Operation}
 use Rattle.co_state.specs.EngineState.{operations_of}
 use Rattle.co_state.specs.Table.{look, put, holds}
-use Rattle.co_graph.specs.PlainGraph.{with_noted, with_pairs}
 use Rattle.co_undecided.specs.Represented.{Represents}
-use Rattle.co_graph.specs.PlainGraph.{has_all}
-use Rattle.co_graph.specs.Shown.{Shows}
 use Rattle.co_undecided.specs.declared.entry.Entry.TheVariants.{Active}
 use Rattle.co_undecided.specs.Kept.{kept_in, asked_in}
-use Rattle.co_undecided.proofs.Graphs.{may_add, added}
 use Rattle.co_undecided.proofs.Entering.{operated}
 use Rattle.co_undecided.proofs.Standing.{operated_apart, operated_marks}
-use Rattle.std.specs.Prelude.{not, ◌&&◌, ◌+◌, ◌++◌, if◌then◌else◌}
+use Rattle.std.specs.Prelude.{not, ◌&&◌, ◌+◌, if◌then◌else◌}
 use Rattle.co_base.specs.declared.reply.Reply.{Reply}
 use Rattle.co_engine.specs.declared.answers.Seen.TheVariants.{Answer, Blocked}
 use Rattle.co_engine.specs.Calls.{seen_by, seen_of}
-use Rattle.co_state.specs.Conflicts.{AreNewPairs}
 use Rattle.co_state.specs.Effects.{after_operation, with_operation}
 use Rattle.co_state.specs.LockRule.{lock_blocker}
 use Rattle.co_state.specs.ReadRule.{operation_reply, snapshot_of}
@@ -41,31 +36,22 @@ returns-in-Blocked-clause-stands g c = λ b asked r may.
     let same : after_operation b t c.args.op.now ≡ b =
     ap (λ d. if d then b else with_operation b t c.args.op.now) (blocked (lock_blocker b t c.args.op.now) (operation_reply b t c.args.op.now) c.in-Blocked.u seen) in
     let engine = c.in_ok-seen.ensures.state b r.engine may in
-    subst (λ s. Represents g.E.Engine.stands_for (record { alloc = c.args.self.now.alloc; engine = c.operate.new.engine; graph = c.args.self.now.graph; entries = c.args.self.now.entries }) s asked) (sym same)
-    (record { engine = subst (g.E.Engine.stands_for c.operate.new.engine) same engine; graph = r.graph; entries = r.entries; apart = r.apart; marks = r.marks })
+    subst (λ s. Represents g.E.Engine.stands_for (record { alloc = c.args.self.now.alloc; engine = c.operate.new.engine; index = c.args.self.now.index; entries = c.args.self.now.entries }) s asked) (sym same)
+    (record { engine = subst (g.E.Engine.stands_for c.operate.new.engine) same engine; index = r.index; entries = r.entries; apart = r.apart; marks = r.marks })
 
-pub returns-clause-stands : goal.returns-clause-stands
-returns-clause-stands g c = λ b asked r may.
+pub returns-in_ok-put-in-Answer-clause-stands : goal.returns-in_ok-put-in-Answer-clause-stands
+returns-in_ok-put-in-Answer-clause-stands g c = λ b asked r may.
     let t = c.args.t in
     let idle = not_held (look b.voted t) (idle_of (holds b.voted t) _ may) in
     let seen : seen_of b t c.args.op.now ≡ Answer c.in-Answer.reply = sym (c.in_ok-seen.ensures.seen b r.engine may) ∙ c.in-Answer.is in
     let same : after_operation b t c.args.op.now ≡ with_operation b t c.args.op.now =
     ap (λ d. if d then b else with_operation b t c.args.op.now) (unblocked (lock_blocker b t c.args.op.now) (operation_reply b t c.args.op.now) c.in-Answer.reply seen) in
     let engine = c.in_ok-seen.ensures.state b r.engine may in
-    let pairs = c.in_ok-seen.ensures.pairs b r.engine may in
-    let new = subst (λ s. AreNewPairs b s pairs.added) same pairs.exactly_new in
-    let listed : c.as_slice.result.now ≡ pairs.added = c.as_slice.ensures ∙ pairs.appended ∙ ap (λ xs. xs ++ pairs.added) c.new-pairs.ensures in
     let os : List Operation = record { op = c.args.op.now; stamp = snapshot_of b t } ∷ operations_of b t in
-    subst (λ s. Represents g.E.Engine.stands_for (record { alloc = c.args.self.now.alloc; engine = c.operate.new.engine; graph = c.add.new.self; entries = c.put.new.self }) s asked) (sym same)
+    subst (λ s. Represents g.E.Engine.stands_for (record { alloc = c.args.self.now.alloc; engine = c.operate.new.engine; index = c.note.new.self; entries = c.put.new.self }) s asked) (sym same)
     (record {
       engine = subst (g.E.Engine.stands_for c.operate.new.engine) same engine;
-      graph = record {
-        plain = with_pairs (with_noted r.graph.plain t) pairs.added;
-        shown = subst (λ ps. Shows c.add.new.self (with_pairs (with_noted r.graph.plain t) ps)) listed
-            (c.in_ok-add-in-Answer.ensures (with_noted r.graph.plain t) (c.in_ok-note-in-Answer.ensures r.graph.plain r.graph.shown)
-            (subst (λ ps. has_all (with_noted r.graph.plain t) ps ≡ true) (sym listed) (may_add b t idle c.args.op.now r.graph.plain pairs.added r.graph.is_of new)));
-        is_of = added b t idle c.args.op.now r.graph.plain pairs.added r.graph.is_of new;
-      };
+      index = c.in_ok-note-in-Answer.ensures b r.index (ap is_some idle);
       entries = λ u. ap (λ es. look es u) c.in_ok-put-in-Answer.ensures
           ∙ ap (λ e. look (put c.args.self.now.entries t e) u) (c.one_more-entry.ensures ∙ ap (λ o. Active (kept_in o + 1) (asked_in o)) c.get.ensures)
           ∙ operated b asked _ t r.entries c.args.op.now idle (r.marks t) u;

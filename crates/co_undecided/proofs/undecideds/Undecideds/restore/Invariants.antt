@@ -4,7 +4,7 @@ use Rattle.co_undecided.proofs.undecideds.Undecideds.restore.Given as goal
 
 abbrev pub invariant-loop-left : goal.invariant-loop-left
 invariant-loop-left g l = record {
-  entered : HaveEntered l.graph l.entries (drop l.left l.voted);
+  entered : HaveEntered l.index l.entries (drop l.left l.voted);
   within : l.left ≤ length l.voted;
 }
 

@@ -1,4 +1,0 @@
-mod Numbers
-mod Bonds
-mod Showing
-mod Walking

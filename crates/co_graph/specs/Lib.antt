@@ -1,4 +1,0 @@
-pub mod PlainGraph
-pub mod Ties
-pub mod Shown
-pub mod Walks

@@ -1,0 +1,22 @@
+use Rattle.std.proofs.Common.{ap, sym, ◌∙◌, is_some}
+use Rattle.std.specs.FinMap.{get, insert, from_entries, slice_cmp-IsAntisymmetric, nat_cmp-IsAntisymmetric}
+use Rattle.std.proofs.lemmas.Cmp.{nat_list_cmp_total}
+use Rattle.co_base.specs.Order.{key_cmp}
+use Rattle.co_serial.proofs.MapViews.{view-get, view-insert}
+use Rattle.co_index.specs.Touching.{without_in}
+use Rattle.co_index.proofs.touched.KeyMap+Touchers+V.take_away.Goals as goal
+
+pub returns-in_default : goal.returns-in_default
+returns-in_default g c =
+    ap (λ m. from_entries {R = key_cmp} m.entries) c.get_mut.follows.holds-at-none ∙ c.self.view_is
+    ∙ ap (without_in c.args.self.now c.args.key.now c.args.t) (c.in_default.ensures.value ∙ sym (view-get nat_list_cmp_total _ _) ∙ ap (λ m. get m c.args.key.now) c.self.view_is)
+
+pub returns : goal.returns
+returns g c =
+    let es = c.self.inside.entries.entries in
+    let there = sym (ap is_some c.in-Some.ensures.value) in
+    let txns = c.remove.new.self in
+    view-insert nat_list_cmp_total (slice_cmp-IsAntisymmetric nat_cmp-IsAntisymmetric) es (c.get_mut.follows.lender txns).entries c.args.key.now txns ((c.get_mut.follows.holds txns).3 there).0
+    ∙ ap (λ m. insert m c.args.key.now txns) c.self.view_is
+    ∙ ap (insert c.args.self.now c.args.key.now) c.remove.ensures
+    ∙ ap (without_in c.args.self.now c.args.key.now c.args.t) (c.in-Some.ensures.value ∙ sym (view-get nat_list_cmp_total _ _) ∙ ap (λ m. get m c.args.key.now) c.self.view_is)
