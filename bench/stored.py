@@ -142,7 +142,7 @@ def words_in(function):
 @functools.lru_cache(None)
 def commands():
     """The words of `co_cli`: by how many words there are, the first one."""
-    return {count: words_in(function) for count, function in [(1, "alone<"), (2, "with_directory("), (3, "with_two<")]}
+    return {count: words_in(function) for count, function in [(1, "alone<"), (2, "with_directory("), (3, "with_two<"), (5, "with_four<")]}
 
 
 def is_directory(word):
@@ -155,6 +155,8 @@ def is_command(words):
         return False
     if words[0] == "trial":
         return all(re.fullmatch(r"\d+|NUMBER|EVENTS", word) for word in words[1:])
+    if words[0] == "look":
+        return all(re.fullmatch(form, word) for form, word in zip([r"m\d+|M", r"\d+|LINE", r"[^-]\S*", r"[^-]\S*"], words[1:]))
     if len(words) == 3:
         flags = [word for word in words[1:] if word == "--resume"]
         return len(flags) == 1 and all(word in flags or is_directory(word) for word in words[1:])

@@ -12,7 +12,7 @@ ghost use Rattle.co_cluster.specs.Readings.{AllUp};
 ghost use Rattle.co_cluster.specs.Standing.{RepresentsCluster};
 
 use crate::cluster::Cluster;
-use co_base::{Node, Txn};
+use co_base::{Kind, Node, Txn};
 use co_coord::Coord;
 use co_engine::Engine;
 use co_member::Member;
@@ -62,6 +62,14 @@ impl<E: Engine + Drop> Cluster<E> {
             Node::Member(member) => self.member_up(member),
             Node::Coord(coord) => self.coord_up(coord),
         }
+    }
+
+    /// The kind of a member's engine. Takes no memory.
+    pub fn kind_of(&self, member: u8) -> Kind
+        requires in_head { (1 ≤ member) × (member ≤ length self.now.members.items) }
+        ensures { (s : Federation) → RepresentsCluster E.takes E.stands_for self.now s → result ≡ (s.member member).engine.kind }
+    {
+        self.member_at(member).kind()
     }
 
     /// The first node that is down: members before coordinators, each by its number; none where all are up. Takes no memory.

@@ -13,7 +13,7 @@ ghost use Rattle.co_member.specs.Standing.{is_up, RepresentsMember};
 
 use crate::member::Member;
 use crate::restart::recovered;
-use co_base::Txn;
+use co_base::{Kind, Txn};
 use co_engine::Engine;
 use co_log::Log;
 use co_plain::Standing;
@@ -39,6 +39,13 @@ impl<E: Engine + Drop> Member<E> {
         ensures { result ≡ is_up self.now }
     {
         self.running.is_some()
+    }
+
+    /// The kind of its engine, also while it is down.
+    pub fn kind(&self) -> Kind
+        ensures { (x : MemberState) → RepresentsMember E.stands_for self.now x → result ≡ x.engine.kind }
+    {
+        self.kind
     }
 
     /// The log.

@@ -22,11 +22,13 @@ use Rattle.co_trial.proofs.Starting.{opening_fault}
 use Rattle.co_world.specs.Attached.{IsAttachedOver}
 use Rattle.co_world.specs.declared.world.World.{World}
 use Rattle.co_top.specs.Ends.{of_world}
-use Rattle.co_top.specs.Following.{RanFresh, HasReached, IsUnreached, NoHead, Halted, IsOfEvent, IsOfSchedule}
+use Rattle.co_top.specs.Following.{RanFresh, HasReached, IsFollowed, IsUnreached, NoHead, Halted, IsOfEvent, IsOfSchedule}
 use Rattle.co_top.specs.Front.{IsHeaded}
 use Rattle.co_top.specs.Heads.{IsReadStatus}
 use Rattle.co_top.specs.Played.{IsTold, IsOver}
 use Rattle.co_top.specs.Replayed.{IsUnopenedAs}
+use Rattle.co_top.specs.declared.reader.Ask.{Ask}
+use Rattle.co_top.specs.declared.reader.Looked.{Looked}
 use Rattle.co_top.specs.declared.status.LimitKind.TheVariants as limit
 use Rattle.co_top.specs.declared.status.Status.{Status}
 use Rattle.co_top.specs.declared.status.Status.TheVariants as status
@@ -153,9 +155,9 @@ module _ {E : Type 0} (takes : Kind → Type 0) (stands_for : E → EngineState 
   }
 
   module _ (now : Option (List ℕ)) (home : HomeView) (w : World E) where
-    pub reached_by : (number : ℕ) → IsOver takes stands_for head (opened head.kinds head.coords at.found_member at.found_coord) (Some text) now None None home w (Ok number) → HasReached takes stands_for input w
+    pub reached_by : (ask : Option Ask) (seen : Looked) (number : ℕ) → IsFollowed takes stands_for head (opened head.kinds head.coords at.found_member at.found_coord) (Some text) now home w ask seen (Ok number) → HasReached takes stands_for input ask w seen
     unfolding fresh
-    reached_by number p = record { fresh = fresh p.0; whole = p.3 text refl; stands = p.2.stands }
+    reached_by ask seen number p = record { fresh = fresh p.0.0; whole = p.0.3 text refl; stands = p.0.2.stands; sees = p.1 }
 
     pub unreached_by : (why : Status) → IsOfSchedule why → IsOver takes stands_for head (opened head.kinds head.coords at.found_member at.found_coord) (Some text) now None None home w (Err why) → IsUnreached input why
     unfolding fresh

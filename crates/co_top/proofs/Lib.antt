@@ -15,9 +15,12 @@ pub mod OneRun
 pub mod Resuming
 pub mod Trying
 mod Followed
-mod Waited
+mod FollowedEnd
+mod Sights
+mod Snapshots
+mod Follows
 mod Breaking
-mod WaitsComplete
+mod FollowedWhole
 mod Asking
 mod Migrations
 mod TurnsAlong

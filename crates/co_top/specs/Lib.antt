@@ -14,8 +14,10 @@ pub mod Checking
 pub mod Complete
 pub mod Running
 pub mod Trials
+pub mod Sights
 pub mod Following
 pub mod Waiting
+pub mod Looking
 pub mod Resolving
 pub mod Turns
 pub mod Migrating

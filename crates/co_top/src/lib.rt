@@ -2,8 +2,8 @@
 //!
 //! **What is proved.**
 //!
-//! - `run` has a clause for each command (`run`, `records`, `migrate`, `check`, `waits`, `trial`), each one relation over what is seen of source,
-//!   sink and directory (`RunsAs`, `WritesRecords`, `MigratesAs`, `ChecksAs`, `WaitsAs`, `TriesAs`); what stands in brackets below is a part of it.
+//! - `run` has a clause for each command (`run`, `records`, `migrate`, `check`, `waits`, `look`, `trial`), each one relation over what is seen of source,
+//!   sink and directory (`RunsAs`, `WritesRecords`, `MigratesAs`, `ChecksAs`, `WaitsAs`, `LooksAs`, `TriesAs`); what stands in brackets below is a part of it.
 //! - **The program.** Of `run DIR` and `run --resume DIR`, over every input that the source tells, every directory, and every sink that tells what it
 //!   holds (`end`): there are the head and the events of the lines that were done, and the logs that were found in the files; what was put is the
 //!   text of the run of the definitions over these logs, all of it, or a front where the sink failed or there was no memory.
@@ -51,6 +51,9 @@
 //!   was. Where the input is a schedule, neither source nor sink failed, and no line would leave a log too long or begin one transaction too many, it
 //!   is done, or there was no memory (`complete`). With an order no list of the waits goes round; with a cycle the timer of each leg's transaction at
 //!   its member answers `dropped`, and no commit record of it becomes stable in any continuation (`KnotTells`, a part of `Written`).
+//! - `look` ends as `waits` does, with the line of what the reader came to in place of the text of the waits. Its cases are those of `Sees`, of which no two come together: rows come exactly where the head
+//!   has the member, the schedule has the line, the engine is multiversion, and the member is up behind that line and all later ones. The rows are those of the range that the member had installed behind the
+//!   line, and these the serial run, in decision order, of exactly what it had installed by then, over the opened votes that were committed first (`serial`).
 //! - Of every command: no source, sink or directory met a fault but the one that the status names, and that one did (`read`, `write`, `device`); a
 //!   run that ends at the limit of transactions ends at an event that begins a number which was not used before, where 65,536 are, with the files
 //!   that the lines before it left (`IsAtLimit`); and one that ends for a log that would be too long, not refused at the start, ends at an event that
@@ -60,9 +63,11 @@
 mod checking;
 mod following;
 mod lines;
+mod looking;
 mod migrating;
 mod note;
 mod playing;
+mod reader;
 mod records;
 mod replay;
 mod resolving;
@@ -73,6 +78,8 @@ mod trials;
 mod waiting;
 mod words;
 
+pub use looking::look_after;
+pub use reader::{Ask, Looked};
 pub use runs::{runs_go_on, there_is_one_run};
 pub use status::{LimitKind, Status};
 pub use top::run;

@@ -2,20 +2,23 @@
 ghost use Rattle.std.specs.Prelude.{◌≡◌, ◌≤◌, ◌↔◌, ℕ, Bool, List, [], Some, length};
 ghost use Rattle.co_durable.specs.Told.{AreTold};
 ghost use Rattle.co_top.specs.Checking.{ChecksAs};
-ghost use Rattle.co_top.specs.Command.{AsksRun, AsksRecords, AsksResolve, AsksMigrate, AsksCheck, AsksWaits, AsksTrial, AsksNothing, asked_by};
+ghost use Rattle.co_top.specs.Command.{AsksRun, AsksRecords, AsksResolve, AsksMigrate, AsksCheck, AsksWaits, AsksTrial, AsksLook, AsksNothing, asked_by};
 ghost use Rattle.co_outside.specs.Sink.{HasNoted};
 ghost use Rattle.co_top.specs.Ends.{note_of};
 ghost use Rattle.co_top.specs.Headline.{IsWholeRun};
+ghost use Rattle.co_top.specs.Looking.{LooksAs};
 ghost use Rattle.co_top.specs.Migrating.{MigratesAs};
 ghost use Rattle.co_top.specs.Ran.{Ran};
 ghost use Rattle.co_top.specs.Records.{WritesRecords};
 ghost use Rattle.co_top.specs.Resolving.{ResolvesAs};
 ghost use Rattle.co_top.specs.Running.{RunsAs};
 ghost use Rattle.co_top.specs.Trials.{TriesAs};
+ghost use Rattle.co_top.specs.declared.reader.Ask.{Ask};
 ghost use Rattle.co_top.specs.Views.{source_seen, sink_seen};
 ghost use Rattle.co_top.specs.Waiting.{WaitsAs};
 
 use crate::checking::check;
+use crate::looking::look;
 use crate::migrating::migrate;
 use crate::note::note_of;
 use crate::records::records;
@@ -71,6 +74,12 @@ use std::alloc::Global;
 /// knot: a cycle, or an order in which every wait leads to a lesser rank. A schedule that is not done to its end writes nothing, with the status that `run` has over fresh logs. The directory is not
 /// touched.
 ///
+/// `look M LINE LO HI` replays the schedule of the source over fresh logs in a directory in memory, and writes what a reader sees that comes to the member M behind that line and stays to the end: `rows N` and the
+/// records from LO to HI as the member had installed them then, told as the reply of a scan is. They are the records of the serial run of exactly the transactions that the member had installed by then. The first of
+/// these comes where there are none: `no member`, where the head has no M; `unopened`, where the schedule ends before the line; `not mv`, where the member is not multiversion; `down`, where it is down behind the
+/// line; `lost`, where it is down behind a later one. M is `m1` to `m16`, LINE 1 to 262,144, and neither LO nor HI begins with a dash. A schedule that is not done to its end writes nothing, as with `waits`. The
+/// directory is not touched.
+///
 /// `trial NUMBER EVENTS` makes a federation of a member of each kind and two coordinators, and a schedule of so many events from the number, runs it
 /// over a directory in memory, settles what is open then, and writes one line of JSON: how many transactions were begun and committed, the SHA-256 of
 /// the transcript, whether the durable records are those of the serial run (they are), the two numbers, how many transactions are open (none), and
@@ -107,6 +116,9 @@ pub fn run<S: Source, K: Sink, N: Sink, H: Home>(
     ensures waits { asked_by words.now ≡ AsksWaits → (home.new ≡ home.old)
         × WaitsAs (source_seen (S.left source.old) (S.faults source.old)) (source_seen (S.left source.new) (S.faults source.new))
         (sink_seen (K.told out.old) (K.faults out.old)) (sink_seen (K.told out.new) (K.faults out.new)) result }
+    ensures look { (ask : Ask) → asked_by words.now ≡ AsksLook ask → (home.new ≡ home.old)
+        × LooksAs ask (source_seen (S.left source.old) (S.faults source.old)) (source_seen (S.left source.new) (S.faults source.new))
+        (sink_seen (K.told out.old) (K.faults out.old)) (sink_seen (K.told out.new) (K.faults out.new)) result }
     ensures noted { (held : List ℕ) → N.told notes.old ≡ Some held →
         HasNoted held (note_of result) (N.told notes.new) (N.faults notes.old) (N.faults notes.new) (N.lacks notes.old) (N.lacks notes.new) }
     ensures counts { N.faults notes.old ≤ N.faults notes.new }
@@ -134,6 +146,15 @@ pub fn run<S: Source, K: Sink, N: Sink, H: Home>(
         }
         Command::Waits => {
             let status = waits::<AnyEngine, S, K>(alloc, source, out);
+            told(alloc, notes, status)
+        }
+        Command::Look {
+            member,
+            line,
+            low,
+            high,
+        } => {
+            let status = look::<AnyEngine, S, K>(alloc, member, line, low, high, source, out);
             told(alloc, notes, status)
         }
         Command::Trial { number, events } => {

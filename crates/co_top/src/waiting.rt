@@ -10,7 +10,8 @@ ghost use Rattle.co_wait.specs.declared.wait.Wait.{Wait};
 ghost use Rattle.co_world.specs.Standing.{RepresentsWorld};
 ghost use Rattle.co_top.specs.Replayed.{status_of};
 ghost use Rattle.co_top.specs.Telling.{IsTextPut};
-ghost use Rattle.co_top.specs.Waiting.{IsWaitsEnd, IsOfWaits};
+ghost use Rattle.co_top.specs.Following.{IsFollowedEnd, IsOfFollowed};
+ghost use Rattle.co_top.specs.Waiting.{HasWaits, text_of_waits};
 
 use crate::following::reached;
 use crate::playing::put;
@@ -49,14 +50,14 @@ fn told_waits<E: Engine + Drop, S: Source, K: Sink>(
     out: &mut K,
 ) -> Result<(), Status>
     requires kinds { (kind : Kind) → E.takes kind }
-    ensures end { (input held : List ℕ) → S.left source.old ≡ Some input → K.told out.old ≡ Some held → IsWaitsEnd input held (K.told out.new) (status_of result) }
-    ensures own { IsOfWaits (status_of result) }
+    ensures end { (input held : List ℕ) → S.left source.old ≡ Some input → K.told out.old ≡ Some held → IsFollowedEnd input HasWaits text_of_waits held (K.told out.new) (status_of result) }
+    ensures own { IsOfFollowed (status_of result) }
     ensures read { IsErrOf result Status.Read → HasRisen (S.faults source.old) (S.faults source.new) }
     ensures write { IsErrOf result Status.Write → HasRisen (K.faults out.old) (K.faults out.new) }
     ensures quiet_source { (IsErrOf result Status.Read → ⊥) → S.faults source.new ≡ S.faults source.old }
     ensures quiet_sink { (IsErrOf result Status.Write → ⊥) → K.faults out.new ≡ K.faults out.old }
 {
-    let world = reached::<E, S>(alloc, source)?;
+    let (world, _) = reached::<E, S>(alloc, source, &None)?;
     let waits = held_votes(world)?;
     let knot = untangle(alloc, &waits)?;
     tell_waits(alloc, out, &waits, &knot)
@@ -70,8 +71,8 @@ pub(crate) fn waits<E: Engine + Drop, S: Source, K: Sink>(
     out: &mut K,
 ) -> Status
     requires kinds { (kind : Kind) → E.takes kind }
-    ensures end { (input held : List ℕ) → S.left source.old ≡ Some input → K.told out.old ≡ Some held → IsWaitsEnd input held (K.told out.new) result }
-    ensures own { IsOfWaits result }
+    ensures end { (input held : List ℕ) → S.left source.old ≡ Some input → K.told out.old ≡ Some held → IsFollowedEnd input HasWaits text_of_waits held (K.told out.new) result }
+    ensures own { IsOfFollowed result }
     ensures read { result ≡ Status.Read → HasRisen (S.faults source.old) (S.faults source.new) }
     ensures write { result ≡ Status.Write → HasRisen (K.faults out.old) (K.faults out.new) }
     ensures quiet_source { (result ≡ Status.Read → ⊥) → S.faults source.new ≡ S.faults source.old }

@@ -1,9 +1,11 @@
 //! The words of the command line.
 ghost use Rattle.std.specs.Prelude.{◌≡◌};
-ghost use Rattle.co_top.specs.Command.{IsCommand, asked_by, asked_alone, asked_of_directory, asked_with, asked_with_two, asked_to_resume, asked_to_try, is_directory, is_resume, word_text, word_named};
+ghost use Rattle.co_top.specs.Command.{IsCommand, asked_by, asked_alone, asked_of_directory, asked_with, asked_with_two, asked_with_four, asked_to_resume, asked_to_try, asked_to_look, are_bounds, is_argument, is_resume, word_text, word_named};
 ghost use Rattle.std.specs.String.{string_bytes};
 
-use co_schedule::long_number_within;
+use crate::replay::LINES;
+use co_base::{Key, MOST_MEMBERS};
+use co_schedule::{is_text_of, long_number_within, named_within};
 
 /// The most events of a trial.
 const MOST_TRIAL_EVENTS: u64 = 60_000;
@@ -44,13 +46,24 @@ pub(crate) enum Command<'a> {
         /// How many events the schedule has, 1 to 60,000.
         events: u32,
     },
+    /// What a reader comes to that comes to a member behind a line of the schedule of the source is written.
+    Look {
+        /// The number of the member, 1 to 16.
+        member: u8,
+        /// The number of the line, 1 to 262,144.
+        line: u32,
+        /// The least key that it asks for.
+        low: &'a str,
+        /// The greatest one.
+        high: &'a str,
+    },
     /// Nothing that is a command.
     Unknown,
 }
 
-/// Whether the word may name a directory: it has a byte, and does not begin with a dash.
-fn is_directory(word: &[u8]) -> bool
-    ensures { result ≡ is_directory word.now }
+/// Whether the word is no option: it has a byte, and does not begin with a dash.
+fn is_argument(word: &[u8]) -> bool
+    ensures { result ≡ is_argument word.now }
 {
     match word {
         [] => false,
@@ -68,9 +81,10 @@ enum Word {
     Check,
     Waits,
     Trial,
+    Look,
 }
 
-const WORDS: [Word; 7] = [
+const WORDS: [Word; 8] = [
     Word::Run,
     Word::Records,
     Word::Resolve,
@@ -78,6 +92,7 @@ const WORDS: [Word; 7] = [
     Word::Check,
     Word::Waits,
     Word::Trial,
+    Word::Look,
 ];
 
 fn text_of(word: Word) -> &'static [u8]
@@ -91,6 +106,7 @@ fn text_of(word: Word) -> &'static [u8]
         Word::Check => b"check",
         Word::Waits => b"waits",
         Word::Trial => b"trial",
+        Word::Look => b"look",
     }
 }
 
@@ -128,13 +144,13 @@ fn trial_of<'a>(number: &String, events: &String) -> Command<'a>
 fn resumed<'a>(first: &'a String, second: &'a String) -> Command<'a>
     ensures { IsCommand (asked_to_resume first.now second.now) result }
 {
-    if is_resume(first) && is_directory(second.as_bytes()) {
+    if is_resume(first) && is_argument(second.as_bytes()) {
         return Command::Run {
             directory: second.as_str(),
             resume: true,
         };
     }
-    if is_resume(second) && is_directory(first.as_bytes()) {
+    if is_resume(second) && is_argument(first.as_bytes()) {
         return Command::Run {
             directory: first.as_str(),
             resume: true,
@@ -147,7 +163,7 @@ fn resumed<'a>(first: &'a String, second: &'a String) -> Command<'a>
 fn with_directory(word: Word, directory: &String) -> Command<'_>
     ensures { IsCommand (asked_of_directory word (string_bytes directory.now)) result }
 {
-    if !is_directory(directory.as_bytes()) {
+    if !is_argument(directory.as_bytes()) {
         return Command::Unknown;
     }
     let directory = directory.as_str();
@@ -159,7 +175,7 @@ fn with_directory(word: Word, directory: &String) -> Command<'_>
         Word::Records => Command::Records { directory },
         Word::Resolve => Command::Resolve { directory },
         Word::Migrate => Command::Migrate { directory },
-        Word::Check | Word::Waits | Word::Trial => Command::Unknown,
+        Word::Check | Word::Waits | Word::Trial | Word::Look => Command::Unknown,
     }
 }
 
@@ -170,7 +186,12 @@ fn alone<'a>(word: Word) -> Command<'a>
     match word {
         Word::Check => Command::Check,
         Word::Waits => Command::Waits,
-        Word::Run | Word::Records | Word::Resolve | Word::Migrate | Word::Trial => Command::Unknown,
+        Word::Run
+        | Word::Records
+        | Word::Resolve
+        | Word::Migrate
+        | Word::Trial
+        | Word::Look => Command::Unknown,
     }
 }
 
@@ -181,8 +202,66 @@ fn with_two<'a>(word: Word, first: &'a String, second: &'a String) -> Command<'a
     match word {
         Word::Trial => trial_of(first, second),
         Word::Run => resumed(first, second),
-        Word::Records | Word::Resolve | Word::Migrate | Word::Check | Word::Waits =>
-            Command::Unknown,
+        Word::Records
+        | Word::Resolve
+        | Word::Migrate
+        | Word::Check
+        | Word::Waits
+        | Word::Look => Command::Unknown,
+    }
+}
+
+/// Whether the words are the least and the greatest key of a range, and none is an option.
+fn are_bounds(low: &[u8], high: &[u8]) -> bool
+    ensures { result ≡ are_bounds low.now high.now }
+{
+    is_text_of(low, Key::MOST)
+        && is_text_of(high, Key::MOST)
+        && is_argument(low)
+        && is_argument(high)
+        && !low.cmp(high).is_gt()
+}
+
+/// A reader, where these are its member, its line and the bounds of its range.
+fn look_of<'a>(member: &String, line: &String, low: &'a String, high: &'a String) -> Command<'a>
+    ensures { IsCommand (asked_to_look member.now line.now low.now high.now) result }
+{
+    if !are_bounds(low.as_bytes(), high.as_bytes()) {
+        return Command::Unknown;
+    }
+    match (
+        named_within(member.as_bytes(), b'm', MOST_MEMBERS),
+        long_number_within(line.as_bytes(), 1, u64::from(LINES)),
+    ) {
+        (Some(member), Some(line)) => Command::Look {
+            member,
+            line: line as u32,
+            low: low.as_str(),
+            high: high.as_str(),
+        },
+        _ => Command::Unknown,
+    }
+}
+
+/// A word, with four others behind it.
+fn with_four<'a>(
+    word: Word,
+    first: &String,
+    second: &String,
+    third: &'a String,
+    fourth: &'a String,
+) -> Command<'a>
+    ensures { IsCommand (asked_with_four word first.now second.now third.now fourth.now) result }
+{
+    match word {
+        Word::Look => look_of(first, second, third, fourth),
+        Word::Run
+        | Word::Records
+        | Word::Resolve
+        | Word::Migrate
+        | Word::Check
+        | Word::Waits
+        | Word::Trial => Command::Unknown,
     }
 }
 
@@ -194,6 +273,7 @@ fn with_words(word: Word, behind: &[String]) -> Command<'_>
         [] => alone(word),
         [directory] => with_directory(word, directory),
         [first, second] => with_two(word, first, second),
+        [first, second, third, fourth] => with_four(word, first, second, third, fourth),
         _ => Command::Unknown,
     }
 }

@@ -16,7 +16,7 @@ ghost use Rattle.co_cluster.specs.Readings.{AllUp, exchange_of, IsFirstOf};
 ghost use Rattle.co_world.specs.Standing.{RepresentsWorld, StandsUp};
 
 use crate::world::World;
-use co_base::{Node, Txn};
+use co_base::{Kind, Node, Txn};
 use co_cluster::{Due, Exchange};
 use co_engine::Engine;
 use co_serial::Site;
@@ -29,6 +29,14 @@ impl<E: Engine + Drop> World<E> {
         ensures { (s : Federation) → RepresentsWorld E.takes E.stands_for self.now s → result ≡ node_up s node }
     {
         self.cluster.up(node)
+    }
+
+    /// The kind of a member's engine. Takes no memory.
+    pub fn kind_of(&self, member: u8) -> Kind
+        requires in_head { (1 ≤ member) × (member ≤ length self.now.cluster.members.items) }
+        ensures { (s : Federation) → RepresentsWorld E.takes E.stands_for self.now s → result ≡ (s.member member).engine.kind }
+    {
+        self.cluster.kind_of(member)
     }
 
     /// The first node that is down: members before coordinators, each by its number; none where all are up. Takes no memory.

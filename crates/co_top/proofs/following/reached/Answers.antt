@@ -3,7 +3,7 @@ use Rattle.co_plain.specs.Opening.{opened}
 use Rattle.co_plain.specs.Runs.{run, lines}
 use Rattle.co_trial.specs.Calm.{calm_seen}
 use Rattle.co_outside.specs.HomeMemory.{memory_file}
-use Rattle.co_top.specs.Played.{IsOver}
+use Rattle.co_top.specs.Following.{IsFollowed}
 use Rattle.co_top.proofs.Followed.{calm_count, opening_memory, memory_unreached, memory_own, reached_by, unreached_by}
 use Rattle.co_top.proofs.Laws.{ready}
 use Rattle.co_top.proofs.following.reached.Goals as goal
@@ -30,7 +30,7 @@ returns-in-Ok-clause-stands g c =
     let at = c.in_ok-world.ensures.opened in
     let s0 = opened head.kinds head.coords at.found_member at.found_coord in
     let p = c.in-Ok.ensures.over s0 at.stands (ready head at.found_member at.found_coord at.may) in
-    (run (lines p.0.events) s0, p.2.stands)
+    (run (lines p.0.0.events) s0, p.0.2.stands)
 
 pub returns-in-Ok-clause-reached : goal.returns-in-Ok-clause-reached
 returns-in-Ok-clause-reached g c = λ input l.
@@ -39,8 +39,8 @@ returns-in-Ok-clause-reached g c = λ input l.
     let read = c.in_ok-lines.ensures.read input l in
     let s0 = opened head.kinds head.coords at.found_member at.found_coord in
     reached_by g.E.Engine.takes g.E.Engine.stands_for input (memory_file c.new-home.result.memory) c.new-home.ensures.files head read.0 read.1 c.in_ok-world.world c.in_ok-world.field-0-1 at
-    (g.S.Source.left c.follow_lines.new.source) (calm_seen c.follow_lines.new.home.memory) c.follow_lines.new.world c.in-Ok.field-0
-    (subst (λ (a : Option (List ℕ)). IsOver g.E.Engine.takes g.E.Engine.stands_for head s0 a (g.S.Source.left c.follow_lines.new.source) None None (calm_seen c.follow_lines.new.home.memory) c.follow_lines.new.world (Ok c.in-Ok.field-0)) read.2
+    (g.S.Source.left c.follow_lines.new.source) (calm_seen c.follow_lines.new.home.memory) c.follow_lines.new.world c.args.ask.now c.follow_lines.new.seen c.in-Ok.field-0
+    (subst (λ (a : Option (List ℕ)). IsFollowed g.E.Engine.takes g.E.Engine.stands_for head s0 a (g.S.Source.left c.follow_lines.new.source) (calm_seen c.follow_lines.new.home.memory) c.follow_lines.new.world c.args.ask.now c.follow_lines.new.seen (Ok c.in-Ok.field-0)) read.2
     (c.in-Ok.ensures.over s0 at.stands (ready head at.found_member at.found_coord at.may)))
 
 pub returns-clause-unreached : goal.returns-clause-unreached
@@ -51,5 +51,5 @@ returns-clause-unreached g c = λ input l.
     let s0 = opened head.kinds head.coords at.found_member at.found_coord in
     unreached_by g.E.Engine.takes g.E.Engine.stands_for input (memory_file c.new-home.result.memory) c.new-home.ensures.files head read.0 read.1 c.in_ok-world.world c.in_ok-world.field-0-1 at
     (g.S.Source.left c.follow_lines.new.source) (calm_seen c.follow_lines.new.home.memory) c.follow_lines.new.world c.in-Err.status c.in-Err.ensures.own
-    (subst (λ (a : Option (List ℕ)). IsOver g.E.Engine.takes g.E.Engine.stands_for head s0 a (g.S.Source.left c.follow_lines.new.source) None None (calm_seen c.follow_lines.new.home.memory) c.follow_lines.new.world (Err c.in-Err.status)) read.2
+    (subst (λ (a : Option (List ℕ)). IsFollowed g.E.Engine.takes g.E.Engine.stands_for head s0 a (g.S.Source.left c.follow_lines.new.source) (calm_seen c.follow_lines.new.home.memory) c.follow_lines.new.world c.args.ask.now c.follow_lines.new.seen (Err c.in-Err.status)) read.2
     (c.in-Err.ensures.over s0 at.stands (ready head at.found_member at.found_coord at.may)))

@@ -1,7 +1,7 @@
 use Rattle.std.proofs.Common.{◌≡◌, ◌∙◌, ℕ, Bool, List, refl, sym, subst}
 use Rattle.co_outside.specs.Sink.{HasNoted}
 use Rattle.co_top.specs.Checking.{ChecksAs}
-use Rattle.co_top.specs.Command.{AsksResolve, AsksWaits, AsksTrial, AsksNothing}
+use Rattle.co_top.specs.Command.{AsksResolve, AsksWaits, AsksTrial, AsksLook, AsksNothing}
 use Rattle.co_top.specs.Ends.{note_of}
 use Rattle.co_top.specs.Migrating.{MigratesAs}
 use Rattle.co_top.specs.Ran.{IsRunEnd}
@@ -10,7 +10,11 @@ use Rattle.co_top.specs.Resolving.{ResolvesAs}
 use Rattle.co_top.specs.Running.{RunsAs}
 use Rattle.co_top.specs.Trials.{TriesAs}
 use Rattle.co_top.specs.Views.{source_seen, sink_seen}
-use Rattle.co_top.specs.Waiting.{WaitsAs, IsOfWaits}
+use Rattle.co_top.specs.Following.{IsOfFollowed}
+use Rattle.co_top.specs.Looking.{LooksAs, HasLooked, text_of_looked}
+use Rattle.co_top.specs.Sights.{ask_for}
+use Rattle.co_top.specs.Waiting.{WaitsAs, HasWaits, text_of_waits}
+use Rattle.co_top.specs.declared.reader.Ask.{Ask}
 use Rattle.co_top.specs.declared.status.Status.{Status}
 use Rattle.co_top.specs.declared.status.Status.TheVariants as status
 use Rattle.co_top.proofs.Completing.{done_or_wanting}
@@ -19,8 +23,8 @@ use Rattle.co_top.proofs.Judging.{exact_of as exact_check}
 use Rattle.co_top.proofs.Migrations.{migrate_asked}
 use Rattle.co_top.proofs.Recording.{exact_of}
 use Rattle.co_top.proofs.Refusing.{refused_exactly}
-use Rattle.co_top.proofs.WaitsComplete.{done_or_wanting as waits_done}
-use Rattle.co_top.proofs.Asking.{run_asked, records_asked, resolve_asked, trial_asked}
+use Rattle.co_top.proofs.FollowedWhole.{done_or_wanting as followed_done}
+use Rattle.co_top.proofs.Asking.{run_asked, records_asked, resolve_asked, trial_asked, look_asked}
 use Rattle.co_top.proofs.Trying.{not_usage}
 use Rattle.co_top.proofs.top.run.Goals as goal
 
@@ -170,7 +174,7 @@ returns-in-Waits-clause-waits g c = λ is.
     let waited : waits c.waits-status.result =
     record {
       end = e.end;
-      complete = λ input held l t followed. waits_done input held out _ _ _ _ followed c.waits-status.result e.read e.write (e.end input held l t);
+      complete = λ input held l t followed. followed_done input HasWaits text_of_waits held out _ _ _ _ followed c.waits-status.result e.read e.write (e.end input held l t);
       read = record { failed = e.read; quiet = e.quiet_source };
       write = record { failed = e.write; quiet = e.quiet_sink };
     } in
@@ -178,10 +182,42 @@ returns-in-Waits-clause-waits g c = λ is.
 
 pub returns-in-Waits-clause-usage : goal.returns-in-Waits-clause-usage
 returns-in-Waits-clause-usage g c =
-    let never : c.told-in-Waits.result ≡ status.Usage → ⊥ = λ e. subst IsOfWaits (sym c.told-in-Waits.ensures.same ∙ e) c.waits-status.ensures.own in (
+    let never : c.told-in-Waits.result ≡ status.Usage → ⊥ = λ e. subst IsOfFollowed (sym c.told-in-Waits.ensures.same ∙ e) c.waits-status.ensures.own in (
       (
         λ e. absurd (never e),
         λ none. absurd (let z : AsksWaits ≡ AsksNothing = sym c.in-Waits.ensures ∙ none in cc),
+      ),
+      λ e. absurd (never e),
+    )
+
+-- ---- a reader
+
+pub look-status-requires-clause-numbers : goal.look-status-requires-clause-numbers
+look-status-requires-clause-numbers g c = let is = c.in-Look.ensures in (is.1, is.2)
+
+pub returns-in-Look-clause-look : goal.returns-in-Look-clause-look
+returns-in-Look-clause-look g c = λ ask is.
+    let e = c.look-status.ensures in
+    let out = g.K.Sink.told c.look-status.new.out in
+    let asked : Ask = ask_for c.in-Look.member c.in-Look.line c.in-Look.low.now c.in-Look.high.now in
+    let looks : Ask → Status → Type 0 = λ a ended.
+    LooksAs a (source_seen (g.S.Source.left c.args.source.now) (g.S.Source.faults c.args.source.now)) (source_seen (g.S.Source.left c.look-status.new.source) (g.S.Source.faults c.look-status.new.source))
+    (sink_seen (g.K.Sink.told c.args.out.now) (g.K.Sink.faults c.args.out.now)) (sink_seen (g.K.Sink.told c.look-status.new.out) (g.K.Sink.faults c.look-status.new.out)) ended in
+    let looked : looks asked c.look-status.result =
+    record {
+      end = e.end;
+      complete = λ input held l t followed. followed_done input (HasLooked asked) (text_of_looked asked) held out _ _ _ _ followed c.look-status.result e.read e.write (e.end input held l t);
+      read = record { failed = e.read; quiet = e.quiet_source };
+      write = record { failed = e.write; quiet = e.quiet_sink };
+    } in
+    (refl, subst (λ a. looks a c.told-in-Look.result) (look_asked (sym c.in-Look.ensures.0 ∙ is)) (subst (looks asked) (sym c.told-in-Look.ensures.same) looked))
+
+pub returns-in-Look-clause-usage : goal.returns-in-Look-clause-usage
+returns-in-Look-clause-usage g c =
+    let never : c.told-in-Look.result ≡ status.Usage → ⊥ = λ e. subst IsOfFollowed (sym c.told-in-Look.ensures.same ∙ e) c.look-status.ensures.own in (
+      (
+        λ e. absurd (never e),
+        λ none. absurd (let z : AsksLook (ask_for c.in-Look.member c.in-Look.line c.in-Look.low.now c.in-Look.high.now) ≡ AsksNothing = sym c.in-Look.ensures.0 ∙ none in cc),
       ),
       λ e. absurd (never e),
     )

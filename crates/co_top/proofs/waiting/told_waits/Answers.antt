@@ -1,17 +1,18 @@
 use Rattle.std.proofs.Common.{Result, sym, subst}
 use Rattle.co_top.specs.Ran.{end_of}
 use Rattle.co_top.specs.Replayed.{status_of}
-use Rattle.co_top.specs.Waiting.{IsWaitsEnd, Unwritten}
+use Rattle.co_top.specs.Following.{IsFollowedEnd, Unwritten}
+use Rattle.co_top.specs.Waiting.{HasWaits, text_of_waits}
 use Rattle.co_top.specs.declared.status.Status.{Status}
 use Rattle.co_top.proofs.Breaking.{knot_of}
 use Rattle.co_top.proofs.Plays.{err_is}
 use Rattle.co_wait.specs.Text.{waits_text}
-use Rattle.co_top.proofs.Waited.{written, text_own}
+use Rattle.co_top.proofs.FollowedEnd.{written, text_own}
 use Rattle.co_top.proofs.waiting.told_waits.Goals as goal
 
 pub returns-in_err-world-clause-end : goal.returns-in_err-world-clause-end
 returns-in_err-world-clause-end g c = λ input held l t.
-    subst (λ (o : Result (Unit {0}) Status). IsWaitsEnd input held (g.K.Sink.told c.args.out.now) (status_of o)) (sym (err_is c.from_residual.result c.in_err-world.field-0.0 c.from_residual.ensures))
+    subst (λ (o : Result (Unit {0}) Status). IsFollowedEnd input HasWaits text_of_waits held (g.K.Sink.told c.args.out.now) (status_of o)) (sym (err_is c.from_residual.result c.in_err-world.field-0.0 c.from_residual.ensures))
     (Unwritten t (c.in_err-world.ensures.unreached input l))
 
 pub held_votes-requires : goal.held_votes-requires
@@ -20,7 +21,7 @@ held_votes-requires g c = record { stands = c.in_ok-world.ensures.stands }
 pub returns-clause-end : goal.returns-clause-end
 returns-clause-end g c = λ input held l t.
     let r = c.in_ok-world.ensures.reached input l in
-    written input held
+    written input held HasWaits text_of_waits
     (record {
       fresh = r.fresh;
       whole = r.whole;

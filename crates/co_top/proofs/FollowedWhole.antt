@@ -1,16 +1,15 @@
--- The writing of held votes that nothing hinders comes to its end, or wants memory.
+-- A command that follows a schedule, and that nothing hinders, comes to its end, or wants memory.
 use Rattle.std.proofs.Common.{◌≡◌, ◌⊎◌, inl, inr, ℕ, List, Option, refl, ◌∙◌}
 use Rattle.co_outside.specs.Faults.{HasRisen}
 use Rattle.co_top.specs.Front.{IsHeadFault}
-use Rattle.co_top.specs.Following.{RanFresh, IsHalt, NoHead, Halted}
-use Rattle.co_top.specs.Waiting.{IsWaitsEnd, IsFollowed, Written, CutOff, Unwritten}
+use Rattle.co_top.specs.Following.{RanFresh, IsHalt, NoHead, Halted, IsFollowedEnd, IsUnstopped, Written, CutOff, Unwritten}
 use Rattle.co_top.specs.declared.status.LimitKind.TheVariants as limit
 use Rattle.co_top.specs.declared.status.Status.{Status}
 use Rattle.co_top.specs.declared.status.Status.TheVariants as status
 use Rattle.co_top.proofs.Completing.{never_stopped}
 use Rattle.co_top.proofs.Reading.{head_is_some, head_is_short}
 
-module _ (input held : List ℕ) (told : Option (List ℕ)) (a b c d : ℕ) (f : IsFollowed input a b c d) (ended : Status) (read : ended ≡ status.Read → HasRisen a b) (write : ended ≡ status.Write → HasRisen c d) where
+module _ (input : List ℕ) (Has : List ℕ → Type 0) (text_of : {i : List ℕ} → Has i → List ℕ) (held : List ℕ) (told : Option (List ℕ)) (a b c d : ℕ) (f : IsUnstopped input a b c d) (ended : Status) (read : ended ≡ status.Read → HasRisen a b) (write : ended ≡ status.Write → HasRisen c d) where
   -- the source failed, or there was no memory
 
   wanting : (s : Status) → ended ≡ s → (s ≡ status.Read) ⊎ (s ≡ status.Memory) → (ended ≡ status.Done) ⊎ (ended ≡ status.Memory)
@@ -36,7 +35,7 @@ module _ (input held : List ℕ) (told : Option (List ℕ)) (a b c d : ℕ) (f :
   halted fresh status.Memory is cause = inr is
   halted fresh _ is cause = absurd cause
 
-  pub done_or_wanting : IsWaitsEnd input held told ended → (ended ≡ status.Done) ⊎ (ended ≡ status.Memory)
+  pub done_or_wanting : IsFollowedEnd input Has text_of held told ended → (ended ≡ status.Done) ⊎ (ended ≡ status.Memory)
   done_or_wanting (Written h put is) = inl is
   done_or_wanting (CutOff h count put (inl is)) = absurd (f.out (write is))
   done_or_wanting (CutOff h count put (inr is)) = inr is
