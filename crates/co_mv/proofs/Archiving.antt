@@ -1,6 +1,6 @@
 -- What an archive keeps after each call.
-use Rattle.std.proofs.Common.{◌≡◌, ◌⊎◌, inl, inr, T, ℕ, suc, ◌<◌, ◌≤◌, Bool, true, false, cond, ◌&&◌, ◌||◌, List, [], ◌∷◌, map, filter, length, Option, None, Some, refl, sym, ap, ◌∙◌, subst, true≢false, arith, eqb→eq}
-use Rattle.std.specs.Prelude.{nat_lt, nat_le, ◌==◌}
+use Rattle.std.proofs.Common.{◌≡◌, ◌⊎◌, inl, inr, T, ℕ, suc, ◌<◌, ◌≤◌, Bool, true, false, cond, ◌&&◌, ◌||◌, List, [], ◌∷◌, map, filter, length, Option, None, Some, refl, sym, ap, ◌∙◌, subst, arith, eqb→eq}
+use Rattle.std.specs.Prelude.{◌==◌}
 use Rattle.std.proofs.lemmas.Bool.Decides.{nat_tests}
 use Rattle.std.specs.FinMap.{get, get-empty}
 use Rattle.std.specs.Ordering.{nat_cmp, eq_by_cmp}
@@ -12,19 +12,19 @@ use Rattle.co_serial.specs.Records.{Records}
 use Rattle.co_state.specs.declared.engine_state.Install.{Install}
 use Rattle.co_state.specs.Effects.{records_from}
 use Rattle.co_state.specs.Keys.{same_key, writes_key}
-use Rattle.co_state.specs.Table.{Table, no_entries, look, put, without}
-use Rattle.co_state.proofs.Tables.{look-put, look-without}
+use Rattle.co_state.specs.Table.{Table, no_entries, look, put}
+use Rattle.co_state.proofs.Tables.{look-put}
 use Rattle.co_mv.specs.declared.archive.Archive.{Archive}
 use Rattle.co_mv.specs.declared.snapshots.Snapshots.{Snapshots}
 use Rattle.co_mv.specs.declared.version.Version.{Version}
 use Rattle.co_mv.specs.Chains.{chain_of, chains_from, rewritten_all}
 use Rattle.co_stamps.specs.Stamped.{IsStamp}
-use Rattle.co_mv.specs.Kept.{needed, stamp_of, or_now, entered, left, pinned, unpinned, grown, IsHeld, IsNeeded, IsNext, IsReleased, IsPruned, Keeps, wrote_at}
+use Rattle.co_mv.specs.Kept.{needed, stamp_of, or_now, entered, pinned, grown, IsHeld, IsNeeded, Keeps, wrote_at}
 use Rattle.co_mv.specs.Recents.{Recents, keys_at, has_key, keys_in}
-use Rattle.co_mv.specs.Versions.{later, last_change, base_versions, closed_by, closed, versions_of, written_over, is_before, sees, is_kept}
+use Rattle.co_mv.specs.Versions.{later, last_change, base_versions, closed_by, closed, versions_of, written_over, sees, is_kept}
 use Rattle.co_mv.proofs.Chaining.{chain-insert, chain-rewritten_all, after_change, fresh, filter-twice, each_one}
-use Rattle.co_mv.proofs.Needing.{tied, some_same, any-needed, kept_to, kept_fewer, Each, each_link, filter-within, filter-alike, closed-closed, each_closed, grown_alike, never_kept, closed_kept, sees_open}
-use Rattle.co_mv.proofs.Versioning.{le_true, true_le, lt_true, true_lt, and_first, and_second, IsLink, Linked, linked, IsWritten, wrote_bound, get-with_change}
+use Rattle.co_mv.proofs.Needing.{tied, some_same, any-needed, kept_fewer, Each, each_link, filter-alike, closed-closed, each_closed, grown_alike, never_kept, closed_kept, sees_open}
+use Rattle.co_mv.proofs.Versioning.{and_first, and_second, Linked, linked, wrote_bound, get-with_change}
 
 -- ---- at the start
 base-cond : (b : Bool) (v o : Option (List ℕ)) → cond b (base_versions v) (base_versions o) ≡ base_versions (cond b v o)

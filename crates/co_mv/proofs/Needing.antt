@@ -10,7 +10,7 @@ use Rattle.std.specs.Cmp.{both_ways}
 use Rattle.co_state.specs.declared.engine_state.Install.{Install}
 use Rattle.co_mv.specs.declared.snapshots.Snapshots.{Snapshots}
 use Rattle.co_mv.specs.declared.version.Version.{Version}
-use Rattle.co_state.specs.Table.{Table, look}
+use Rattle.co_state.specs.Table.{Table}
 use Rattle.co_stamps.specs.Stamped.{IsStamp}
 use Rattle.co_mv.specs.Kept.{stamps, pinned_numbers, held, needed, grown, IsHeld, IsNeeded}
 use Rattle.co_mv.specs.Versions.{closed_by, closed, is_before, sees, is_gone, is_kept}

@@ -1,30 +1,24 @@
 -- What an archive keeps after a number is held no more.
-use Rattle.std.proofs.Common.{◌≡◌, ◌⊎◌, inl, inr, T, ℕ, suc, ◌<◌, ◌≤◌, Bool, true, false, cond, ◌&&◌, ◌||◌, List, [], ◌∷◌, map, filter, length, Option, None, Some, refl, sym, ap, ◌∙◌, subst, true≢false, arith, eqb→eq}
-use Rattle.std.specs.Prelude.{nat_lt, nat_le, ◌==◌}
+use Rattle.std.proofs.Common.{◌≡◌, ◌⊎◌, inl, inr, ℕ, ◌<◌, ◌≤◌, Bool, true, false, cond, ◌&&◌, List, [], filter, Option, None, Some, refl, sym, ap, ◌∙◌, subst, true≢false, arith}
+use Rattle.std.specs.Prelude.{nat_lt, nat_le}
 use Rattle.std.proofs.lemmas.Bool.Decides.{nat_tests}
-use Rattle.std.specs.FinMap.{get, get-empty}
 use Rattle.std.specs.Ordering.{nat_cmp, eq_by_cmp}
 use Rattle.std.specs.Cmp.{both_ways}
-use Rattle.co_base.specs.Order.{key_cmp}
-use Rattle.co_base.specs.declared.row.Row.{Row}
-use Rattle.co_base.specs.declared.written.Written.{Written}
 use Rattle.co_serial.specs.Records.{Records}
 use Rattle.co_state.specs.declared.engine_state.Install.{Install}
-use Rattle.co_state.specs.Effects.{records_from}
-use Rattle.co_state.specs.Keys.{same_key, writes_key}
-use Rattle.co_state.specs.Table.{Table, no_entries, look, put, without}
-use Rattle.co_state.proofs.Tables.{look-put, look-without, same_table}
+use Rattle.co_state.specs.Table.{Table, look, without}
+use Rattle.co_state.proofs.Tables.{look-without, same_table}
 use Rattle.co_mv.specs.declared.archive.Archive.{Archive}
 use Rattle.co_mv.specs.declared.snapshots.Snapshots.{Snapshots}
 use Rattle.co_mv.specs.declared.version.Version.{Version}
-use Rattle.co_mv.specs.Chains.{chain_of, chains_from, rewritten_all}
+use Rattle.co_mv.specs.Chains.{chain_of}
 use Rattle.co_stamps.specs.Stamped.{IsStamp}
-use Rattle.co_mv.specs.Kept.{needed, stamp_of, or_now, entered, left, pinned, unpinned, grown, IsHeld, IsNeeded, IsNext, IsReleased, IsPruned, Keeps, wrote_at}
-use Rattle.co_mv.specs.Recents.{Recents, keys_at, has_key, keys_in}
-use Rattle.co_mv.specs.Versions.{later, last_change, base_versions, closed_by, closed, versions_of, written_over, is_before, sees, is_kept}
-use Rattle.co_mv.proofs.Chaining.{chain-insert, chain-rewritten_all, after_change, fresh, filter-twice, each_one}
-use Rattle.co_mv.proofs.Needing.{tied, some_same, any-needed, kept_to, kept_fewer, Each, each_link, filter-within, filter-alike, closed-closed, each_closed, grown_alike, never_kept, closed_kept, sees_open}
-use Rattle.co_mv.proofs.Versioning.{le_true, true_le, lt_true, true_lt, and_first, and_second, IsLink, Linked, linked, IsWritten, wrote_bound, get-with_change}
+use Rattle.co_mv.specs.Kept.{needed, left, unpinned, IsHeld, IsNeeded, IsNext, IsReleased, IsPruned, Keeps, wrote_at}
+use Rattle.co_mv.specs.Recents.{Recents, keys_at, has_key}
+use Rattle.co_mv.specs.Versions.{versions_of, is_before, sees, is_kept}
+use Rattle.co_mv.proofs.Chaining.{each_one}
+use Rattle.co_mv.proofs.Needing.{tied, some_same, kept_to, kept_fewer, each_link, filter-within, filter-alike}
+use Rattle.co_mv.proofs.Versioning.{le_true, true_le, lt_true, true_lt, and_first, and_second, IsLink, linked, IsWritten}
 
 -- ---- a number is held no more
 without_was : (m : Table ℕ) (t n : ℕ) → IsStamp (without m t) n → IsStamp m n
@@ -222,4 +216,3 @@ keeps_released a b base is s m from to es r stay pruned recents ends =
     keeps_released_at a b base is m from to (subst (λ x. IsReleased a.snapshots x m) (sym es) r) (subst (λ x. StayKept a is x from to) (sym es) stay)
     (subst (λ x. IsPruned (is_kept (needed x)) a.recents from to a.chains b.chains) (sym es) pruned)
     (λ k n h. recents k n (subst (λ x. IsHeld x k) es h)) (subst (λ x. Ends x b.recents) (sym es) ends)
-

@@ -1,9 +1,7 @@
 -- The numbers that are held, by the least one at or above a number and the greatest one below it.
-use Rattle.std.proofs.Common.{◌≡◌, ◌⊎◌, inl, inr, T, ℕ, ◌<◌, ◌≤◌, min, max, Bool, true, false, not, ◌&&◌, ◌||◌, List, [], ◌∷◌, map, length, is_some, Option, None, Some, refl, sym, ap, ◌∙◌, subst, true≢false, eqb→eq, arith}
+use Rattle.std.proofs.Common.{◌≡◌, ◌⊎◌, inl, inr, T, ℕ, ◌<◌, ◌≤◌, min, max, Bool, true, false, not, ◌&&◌, List, [], ◌∷◌, length, is_some, Option, None, Some, refl, sym, ap, ◌∙◌, subst, true≢false, eqb→eq, arith}
 use Rattle.std.specs.Prelude.{nat_lt, nat_le, ◌==◌}
 use Rattle.std.specs.List.{list_any, list_all}
-use Rattle.std.proofs.lemmas.List.Folds.{list_any-append}
-use Rattle.std.specs.FinMap.{entries}
 use Rattle.std.proofs.lemmas.Bool.Decides.{nat_tests}
 use Rattle.std.specs.Cmp.{both_ways}
 use Rattle.std.specs.Option.{unwrap_or}
@@ -11,7 +9,7 @@ use Rattle.co_state.specs.Table.{lesser}
 use Rattle.co_stamps.specs.Stamped.{IsLeastFrom, IsGreatestBelow}
 use Rattle.co_mv.specs.declared.snapshots.Snapshots.{Snapshots}
 use Rattle.co_mv.specs.declared.version.Version.{Version}
-use Rattle.co_mv.specs.Kept.{stamps, pinned_numbers, held, needed, greater, IsHeld, IsNeeded, IsNext, IsLeastHeldFrom, IsGreatestHeldBelow}
+use Rattle.co_mv.specs.Kept.{held, needed, greater, IsHeld, IsNeeded, IsNext, IsLeastHeldFrom, IsGreatestHeldBelow}
 use Rattle.co_mv.specs.Versions.{is_before, sees, is_gone}
 use Rattle.co_mv.proofs.Needing.{any-held, held-any, none-held, all-needed, needed-all}
 use Rattle.co_mv.proofs.Versioning.{le_true, true_le, lt_true, true_lt, and_first, and_second}
@@ -102,16 +100,6 @@ not_empty x xs = ap not (by (length (x ∷ xs) == 0) refl)
 any_number : (xs : List ℕ) → not (length xs == 0) ≡ list_any (λ n. true) xs
 any_number [] = refl
 any_number (x ∷ xs) = not_empty x xs
-
-numbers : (es : List (ℕ × ℕ)) → not (length es == 0) ≡ list_any (λ n. true) (map (λ e. e.1) es)
-numbers [] = refl
-numbers (e ∷ es) = not_empty e es
-
-pub readers_of_both : (s : Snapshots) → (not (length (entries s.stamps) == 0) || not (length (entries s.pins) == 0)) ≡ not (length (held s) == 0)
-readers_of_both s =
-    (λ i. numbers (entries s.stamps) i || numbers (entries s.pins) i)
-    ∙ sym (list_any-append (λ n. true) (stamps s) (pinned_numbers s.pins))
-    ∙ sym (any_number (held s))
 
 pub some_held : (s : Snapshots) → not (length (held s) == 0) ≡ true → (n : ℕ) × IsHeld s n
 some_held s e = let r = held-any (λ n. true) s (sym (any_number (held s)) ∙ e) in (r.0, r.1)

@@ -15,9 +15,7 @@ use crate::archive::Archive;
 use crate::reading::{all_records, lay_within, records_within, seen_value};
 use crate::stale::least_written;
 use co_base::{Key, Kind, Op, Range, Reply, Rows, Txn, Value, Writes, Written};
-use co_engine::{
-    Dump, Engine, Pinned, Pinning, Seen, copy_value, grow, prepared_sets, writing,
-};
+use co_engine::{Dump, Engine, Pinned, Pinning, Seen, copy_value, grow, prepared_sets, writing};
 use co_index::value_after;
 use co_pairs::{Prepared, Sets};
 use co_state::Table;

@@ -1,4 +1,4 @@
-use Rattle.std.proofs.Common.{None, Some, sym, ◌∙◌, refl, subst}
+use Rattle.std.proofs.Common.{sym, ◌∙◌, refl, subst}
 use Rattle.co_mv.specs.Kept.{IsReleased}
 use Rattle.co_mv.proofs.Releasing.{keeps_absent, left_released}
 use Rattle.co_mv.proofs.archive.Archive.leave.Goals as goal
@@ -12,4 +12,4 @@ returns-in-Some-clause-keeps c = λ base is k.
 
 pub returns-in_default-clause-keeps : goal.returns-in_default-clause-keeps
 returns-in_default-clause-keeps c = λ base is k.
-    keeps_absent c.args.self.now _ base is c.args.t (sym c.remove.ensures.number ∙ ?) (λ i. record c.args.self.now.snapshots { stamps = c.remove.ensures.rest i }) refl refl k
+    keeps_absent c.args.self.now _ base is c.args.t (sym c.remove.ensures.number ∙ c.in_default.is) (λ i. record c.args.self.now.snapshots { stamps = c.remove.ensures.rest i }) refl refl k

@@ -1,4 +1,4 @@
-use Rattle.std.proofs.Common.{◌≤◌, sym, ap, ◌∙◌, refl}
+use Rattle.std.proofs.Common.{ap, ◌∙◌}
 use Rattle.co_mv.specs.Recents.{keys_at}
 use Rattle.co_mv.proofs.Forgetting.{keeps_narrowed, keeps_forgotten, number_bound}
 use Rattle.co_mv.proofs.archive.Archive.release.Goals as goal

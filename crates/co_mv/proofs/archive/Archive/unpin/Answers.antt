@@ -1,4 +1,4 @@
-use Rattle.std.proofs.Common.{None, Some, sym, ◌∙◌, refl, subst}
+use Rattle.std.proofs.Common.{sym, ◌∙◌, refl, subst}
 use Rattle.co_mv.specs.Kept.{IsReleased}
 use Rattle.co_mv.proofs.Releasing.{keeps_unpinned, unpinned_released}
 use Rattle.co_mv.proofs.archive.Archive.unpin.Goals as goal
@@ -11,4 +11,4 @@ returns-in-Some-clause-keeps c = λ base is k.
     k
 
 pub returns-in_default-clause-keeps : goal.returns-in_default-clause-keeps
-returns-in_default-clause-keeps c = λ base is k. keeps_unpinned c.args.self.now _ base is c.args.id (sym c.unpin.ensures.number ∙ ?) c.unpin.ensures.rest refl refl k
+returns-in_default-clause-keeps c = λ base is k. keeps_unpinned c.args.self.now _ base is c.args.id (sym c.unpin.ensures.number ∙ c.in_default.is) c.unpin.ensures.rest refl refl k

@@ -1,5 +1,4 @@
 use Rattle.std.proofs.Common.{refl, ap}
-use Rattle.co_mv.proofs.Outcomes.{on_both}
 use Rattle.co_mv.proofs.Standing.{stands_still}
 use Rattle.co_mv.proofs.mv_engine.MvEnginePinning.pin.Goals as goal
 
