@@ -18,7 +18,7 @@ pub trait Engine: Sized {
     ghost use Rattle.co_state.specs.EngineState.{is_undecided, sets_at};
     ghost use Rattle.co_state.specs.Effects.{after_operation, after_cast, after_install, after_drop, restored, records_from, dumped_rows, dumped_undos};
     ghost use Rattle.co_state.specs.StaleRead.{stale_key};
-    ghost use Rattle.co_state.specs.Table.{holds};
+    ghost use Rattle.co_state.specs.Table.{Table, holds, no_entries};
     ghost use Rattle.co_engine.specs.Calls.{may_operate, seen_of, writing, votes_of};
 
     /// Which kinds of engines this one can be.
@@ -27,7 +27,10 @@ pub trait Engine: Sized {
     /// For which states the engine stands.
     ghost stands_for: { Self → EngineState → Type 0 };
 
-    /// A new engine with these records, no installs, no active transactions and these voted ones.
+    /// For each id that is pinned, how many installs there were at its pin. Only a `Pinning` engine has any.
+    ghost pins: { Self → Table ℕ };
+
+    /// A new engine with these records, no installs, no active transactions, no pins and these voted ones.
     fn restore(
         alloc: Global,
         kind: Kind,
@@ -36,17 +39,20 @@ pub trait Engine: Sized {
     ) -> Result<Self, AllocError>
         requires taken { takes kind }
         requires free { IsTrue (are_free voted.now) }
-        ensures { IfOk result (λ engine. stands_for engine (restored kind (records_from rows) (votes_of voted.now))) };
+        ensures state { IfOk result (λ engine. stands_for engine (restored kind (records_from rows) (votes_of voted.now))) }
+        ensures pins { IfOk result (λ engine. pins engine ≡ no_entries) };
 
     /// Reads a record, by a transaction that has neither voted nor been installed.
     fn read(&mut self, alloc: Global, t: Txn, key: &Key) -> Result<Seen, AllocError>
         ensures seen { (b : EngineState) → stands_for self.old b → IsTrue (may_operate b t) → IfOk result (λ seen. seen ≡ seen_of b t (Read key.now)) }
-        ensures state { (b : EngineState) → stands_for self.old b → IsTrue (may_operate b t) → OnOk result (stands_for self.new (after_operation b t (Read key.now))) };
+        ensures state { (b : EngineState) → stands_for self.old b → IsTrue (may_operate b t) → OnOk result (stands_for self.new (after_operation b t (Read key.now))) }
+        ensures pins { pins self.new ≡ pins self.old };
 
     /// Reads the records of a range, by a transaction that has neither voted nor been installed.
     fn scan(&mut self, alloc: Global, t: Txn, range: &Range) -> Result<Seen, AllocError>
         ensures seen { (b : EngineState) → stands_for self.old b → IsTrue (may_operate b t) → IfOk result (λ seen. seen ≡ seen_of b t (Scan range.now)) }
-        ensures state { (b : EngineState) → stands_for self.old b → IsTrue (may_operate b t) → OnOk result (stands_for self.new (after_operation b t (Scan range.now))) };
+        ensures state { (b : EngineState) → stands_for self.old b → IsTrue (may_operate b t) → OnOk result (stands_for self.new (after_operation b t (Scan range.now))) }
+        ensures pins { pins self.new ≡ pins self.old };
 
     /// Writes a record, or takes it away where there is no value, by a transaction that has neither
     /// voted nor been installed.
@@ -58,7 +64,8 @@ pub trait Engine: Sized {
         value: Option<&Value>,
     ) -> Result<Seen, AllocError>
         ensures seen { (b : EngineState) → stands_for self.old b → IsTrue (may_operate b t) → IfOk result (λ seen. seen ≡ seen_of b t (writing key.now (option_copied value.entry))) }
-        ensures state { (b : EngineState) → stands_for self.old b → IsTrue (may_operate b t) → OnOk result (stands_for self.new (after_operation b t (writing key.now (option_copied value.entry)))) };
+        ensures state { (b : EngineState) → stands_for self.old b → IsTrue (may_operate b t) → OnOk result (stands_for self.new (after_operation b t (writing key.now (option_copied value.entry)))) }
+        ensures pins { pins self.new ≡ pins self.old };
 
     /// What an active or voted transaction read and wrote. Takes no memory.
     fn sets(&self, t: Txn) -> &Sets
@@ -71,15 +78,18 @@ pub trait Engine: Sized {
     /// Makes an active transaction a voted one, whatever coordinator asked and however many operations
     /// it counted. Takes no memory.
     fn cast(&mut self, t: Txn)
-        ensures { (b : EngineState) (coord count : ℕ) → stands_for self.old b → IsTrue (holds b.active t) → stands_for self.new (after_cast b t coord count) };
+        ensures state { (b : EngineState) (coord count : ℕ) → stands_for self.old b → IsTrue (holds b.active t) → stands_for self.new (after_cast b t coord count) }
+        ensures pins { pins self.new ≡ pins self.old };
 
     /// Commits a voted transaction.
     fn install(&mut self, alloc: Global, t: Txn) -> Result<(), AllocError>
-        ensures { (b : EngineState) → stands_for self.old b → IsTrue (holds b.voted t) → OnOk result (stands_for self.new (after_install b t)) };
+        ensures state { (b : EngineState) → stands_for self.old b → IsTrue (holds b.voted t) → OnOk result (stands_for self.new (after_install b t)) }
+        ensures pins { pins self.new ≡ pins self.old };
 
     /// Forgets an active or voted transaction. Takes no memory.
     fn drop_txn(&mut self, t: Txn)
-        ensures { (b : EngineState) → stands_for self.old b → IsTrue (is_undecided b t) → stands_for self.new (after_drop b t) };
+        ensures state { (b : EngineState) → stands_for self.old b → IsTrue (is_undecided b t) → stands_for self.new (after_drop b t) }
+        ensures pins { pins self.new ≡ pins self.old };
 
     /// The records as the engine keeps them, and the changes that lead back to the installed ones.
     fn dump(&self, alloc: Global) -> Result<Dump, AllocError>

@@ -12,6 +12,7 @@ ghost use Rattle.co_state.specs.Effects.{after_operation, with_operation, restor
 ghost use Rattle.co_state.specs.EngineState.{installed_records};
 ghost use Rattle.co_state.specs.LockRule.{lock_blocker};
 ghost use Rattle.co_state.specs.ReadRule.{operation_reply};
+ghost use Rattle.co_state.specs.Table.{no_entries};
 ghost use Rattle.co_engine.specs.Calls.{may_operate, seen_of, votes_of};
 ghost use Rattle.co_lock.specs.Locked.{IsLocked};
 ghost use Rattle.co_lock.specs.LockedState.{LockedState, IsClear, with_writes};
@@ -177,6 +178,8 @@ impl Engine for LockEngine {
     ghost takes = { λ kind. kind ≡ Lock };
 
     ghost stands_for = { StandsFor };
+
+    ghost pins = { λ _. no_entries };
 
     fn restore(
         alloc: Global,

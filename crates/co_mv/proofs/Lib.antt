@@ -5,6 +5,7 @@ mod Needing
 mod Stamping
 mod Chaining
 mod Archiving
+mod Releasing
 mod Forgetting
 mod Visible
 mod Overwriting

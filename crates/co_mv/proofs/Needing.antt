@@ -2,6 +2,7 @@
 use Rattle.std.proofs.Common.{◌≡◌, inl, inr, T, ℕ, suc, ◌<◌, ◌≤◌, Bool, true, false, cond, not, ◌&&◌, ◌||◌, List, [], ◌∷◌, map, filter, length, is_some, Option, None, Some, refl, sym, ap, ◌∙◌, true≢false, arith}
 use Rattle.std.specs.Prelude.{nat_lt, nat_le}
 use Rattle.std.specs.List.{list_any, list_all}
+use Rattle.std.proofs.lemmas.List.Folds.{list_any-append}
 use Rattle.std.specs.FinMap.{entries, entries_sorted, get-entries}
 use Rattle.std.specs.FinMap.Entries.{find, below_all, is_sorted}
 use Rattle.std.specs.Ordering.{nat_cmp, eq_by_cmp}
@@ -9,7 +10,9 @@ use Rattle.std.specs.Cmp.{both_ways}
 use Rattle.co_state.specs.declared.engine_state.Install.{Install}
 use Rattle.co_mv.specs.declared.snapshots.Snapshots.{Snapshots}
 use Rattle.co_mv.specs.declared.version.Version.{Version}
-use Rattle.co_mv.specs.Kept.{needed, grown, IsNeeded}
+use Rattle.co_state.specs.Table.{Table}
+use Rattle.co_stamps.specs.Stamped.{IsStamp}
+use Rattle.co_mv.specs.Kept.{stamps, pinned_numbers, held, needed, grown, IsHeld, IsNeeded}
 use Rattle.co_mv.specs.Versions.{closed_by, closed, is_before, sees, is_gone, is_kept}
 use Rattle.co_mv.proofs.Versioning.{le_true, true_le, true_lt, and_first, and_second, and-false, IsLink, Linked, written_bound}
 pub use Rattle.co_state.proofs.Ties.{first, second, tied, ties-itself}
@@ -30,7 +33,7 @@ found_step : (p : ℕ → Bool) (x n : ℕ) (rest : Bool) (o : Option ℕ) (b : 
 found_step p x n rest o true e h f = or_first (p x) rest (ap p (some_same x n e) ∙ h)
 found_step p x n rest o false e h f = or_second (p x) rest (f e)
 
-pub any-found : (p : ℕ → Bool) (es : List (ℕ × ℕ)) (t n : ℕ) → find nat_cmp t es ≡ Some n → p n ≡ true → list_any p (map (λ e. e.1) es) ≡ true
+any-found : (p : ℕ → Bool) (es : List (ℕ × ℕ)) (t n : ℕ) → find nat_cmp t es ≡ Some n → p n ≡ true → list_any p (map (λ e. e.1) es) ≡ true
 any-found p [] t n e h = absurd (let f : None ≡ Some n = e in cc)
 any-found p (f ∷ es) t n e h = found_step p f.1 n (list_any p (map (λ e. e.1) es)) (find nat_cmp t es) (eq_by_cmp nat_cmp t f.0) e h (λ e. any-found p es t n e h)
 
@@ -49,20 +52,44 @@ any_step : (p : ℕ → Bool) (f : ℕ × ℕ) (es : List (ℕ × ℕ)) (b : Boo
 any_step p f es true s y e rest = (f.0, f.1, find-first f es, y)
 any_step p f es false s y e rest = let r = rest e in (r.0, r.1, find-later f es r.0 r.1 (eq_by_cmp nat_cmp r.0 f.0) s refl r.2, r.3)
 
-pub found-any : (p : ℕ → Bool) (es : List (ℕ × ℕ)) → T (is_sorted nat_cmp es) → list_any p (map (λ e. e.1) es) ≡ true → Found p es
+found-any : (p : ℕ → Bool) (es : List (ℕ × ℕ)) → T (is_sorted nat_cmp es) → list_any p (map (λ e. e.1) es) ≡ true → Found p es
 found-any p [] h e = absurd (true≢false (sym e))
 found-any p (f ∷ es) h e = any_step p f es (p f.1) (first _ _ h) refl e (found-any p es (second _ _ h))
 
+any-stamp : (p : ℕ → Bool) (numbers : Table ℕ) (n : ℕ) → IsStamp numbers n → p n ≡ true → list_any p (map (λ e. e.1) (entries numbers)) ≡ true
+any-stamp p numbers n (t, e) h = any-found p (entries numbers) t n (sym (get-entries numbers t) ∙ e) h
+
+stamp-any : (p : ℕ → Bool) (numbers : Table ℕ) → list_any p (map (λ e. e.1) (entries numbers)) ≡ true → (n : ℕ) × IsStamp numbers n × (p n ≡ true)
+stamp-any p numbers e = let r = found-any p (entries numbers) (entries_sorted numbers) e in (r.1, (r.0, get-entries numbers r.0 ∙ r.2), r.3)
+
+pub any-held : (p : ℕ → Bool) (s : Snapshots) (n : ℕ) → IsHeld s n → p n ≡ true → list_any p (held s) ≡ true
+any-held p s n (inl m) h = list_any-append p (stamps s) (pinned_numbers s.pins) ∙ or_first _ _ (any-stamp p s.stamps n m h)
+any-held p s n (inr m) h = list_any-append p (stamps s) (pinned_numbers s.pins) ∙ or_second _ _ (any-stamp p s.pins n m h)
+
+pub held-any : (p : ℕ → Bool) (s : Snapshots) → list_any p (held s) ≡ true → (n : ℕ) × IsHeld s n × (p n ≡ true)
+held-any p s e = by (list_any p (stamps s)) refl (sym (list_any-append p (stamps s) (pinned_numbers s.pins)) ∙ e)
+  where
+    by : (b : Bool) → list_any p (stamps s) ≡ b → (b || list_any p (pinned_numbers s.pins)) ≡ true → (n : ℕ) × IsHeld s n × (p n ≡ true)
+    by true y e = let r = stamp-any p s.stamps y in (r.0, inl r.1, r.2)
+    by false y e = let r = stamp-any p s.pins e in (r.0, inr r.1, r.2)
+
+pub none-held : (p : ℕ → Bool) (s : Snapshots) → ((n : ℕ) → IsHeld s n → p n ≡ false) → list_any p (held s) ≡ false
+none-held p s h = by (list_any p (held s)) refl
+  where
+    by : (b : Bool) → list_any p (held s) ≡ b → b ≡ false
+    by true e = let r = held-any p s e in absurd (true≢false (sym r.2 ∙ h r.0 r.1))
+    by false e = refl
+
 pub any-needed : (p : ℕ → Bool) (s : Snapshots) (n : ℕ) → IsNeeded s n → p n ≡ true → list_any p (needed s) ≡ true
 any-needed p s n (inl e) h = or_first _ _ (ap p (sym e) ∙ h)
-any-needed p s n (inr (t, e)) h = or_second _ _ (any-found p (entries s.stamps) t n (sym (get-entries s.stamps t) ∙ e) h)
+any-needed p s n (inr m) h = or_second _ _ (any-held p s n m h)
 
 pub needed-any : (p : ℕ → Bool) (s : Snapshots) → list_any p (needed s) ≡ true → (n : ℕ) × IsNeeded s n × (p n ≡ true)
 needed-any p s e = by (p s.installs) refl e
   where
-    by : (b : Bool) → p s.installs ≡ b → (b || list_any p (map (λ e. e.1) (entries s.stamps))) ≡ true → (n : ℕ) × IsNeeded s n × (p n ≡ true)
+    by : (b : Bool) → p s.installs ≡ b → (b || list_any p (held s)) ≡ true → (n : ℕ) × IsNeeded s n × (p n ≡ true)
     by true y e = (s.installs, inl refl, y)
-    by false y e = let r = found-any p (entries s.stamps) (entries_sorted s.stamps) e in (r.1, inr (r.0, get-entries s.stamps r.0 ∙ r.2), r.3)
+    by false y e = let r = held-any p s e in (r.0, inr r.1, r.2)
 
 not_or : (a b : Bool) → (a && not b) ≡ not (not a || b)
 not_or true b = refl

@@ -1,5 +1,5 @@
 -- For which states the engine stands after each call.
-use Rattle.std.proofs.Common.{◌≡◌, inl, inr, T, ℕ, ◌<◌, ◌≤◌, Bool, true, false, cond, ◌&&◌, List, [], ◌∷◌, map, filter, length, reverse, is_some, Option, None, Some, IsTrue, refl, sym, ap, ◌∙◌, subst, true≢false, eqb→eq, eq-eqb, arith}
+use Rattle.std.proofs.Common.{◌≡◌, inl, inr, T, ℕ, ◌<◌, ◌≤◌, Bool, true, false, cond, ◌&&◌, List, [], ◌∷◌, ◌++◌, map, filter, length, reverse, is_some, Option, None, Some, IsTrue, refl, sym, ap, ◌∙◌, subst, true≢false, eqb→eq, eq-eqb, arith}
 use Rattle.std.specs.Prelude.{◌==◌}
 use Rattle.std.specs.List.{list_all}
 use Rattle.std.specs.Option.{option_map}
@@ -32,7 +32,7 @@ use Rattle.co_mv.specs.declared.archive.Archive.{Archive}
 use Rattle.co_mv.specs.declared.mv_engine.MvEngine.{MvEngine}
 use Rattle.co_mv.specs.declared.version.Version.{Version}
 use Rattle.co_mv.specs.Chains.{chain_of, chain_in}
-use Rattle.co_mv.specs.Kept.{needed, or_now, stamp_of, entered, left, grown, IsNeeded, Keeps, AreStamped, active_sets, voted_sets, IsKept, StandsFor, own_writes, visible_within}
+use Rattle.co_mv.specs.Kept.{needed, or_now, stamp_of, entered, left, grown, IsNeeded, Keeps, AreStamped, active_sets, voted_sets, IsKept, StandsFor, pinned_numbers, pins_of, own_writes, seen_within, visible_within}
 use Rattle.co_engine.specs.Undecided.{or_nothing, grown_by, grown_at}
 use Rattle.co_engine.proofs.Answering.{cond-same, not_voted, records_at-all}
 use Rattle.co_pairs.specs.Votes.{told_of}
@@ -159,7 +159,7 @@ since_alike a base is t n key k at =
     kept v l h =
         let b : v.written ≤ length is = written_bound is key v.written l.begun in
         let i = k.installs_are in
-        kept_for_all a.snapshots v a.snapshots.installs n (inl refl) (sees_open a.snapshots.installs v l.ended (omega (arith, b, i))) (inr (t, at)) h
+        kept_for_all a.snapshots v a.snapshots.installs n (inl refl) (sees_open a.snapshots.installs v l.ended (omega (arith, b, i))) (inr (inl (t, at))) h
 
 active_stamp : (st : Option ℕ) (os : Option (List Operation)) → AreStamped st os → is_some os ≡ true → (n : ℕ) × (st ≡ Some n)
 active_stamp None None k h = absurd (true≢false (sym h))
@@ -199,16 +199,30 @@ seconds : {X : Type 0} (f : X → ℕ) (es : List (ℕ × X)) → map (λ e. e.1
 seconds f [] = refl
 seconds f (e ∷ es) = ap (λ ns. f e.1 ∷ ns) (seconds f es)
 
-pub needed_alike : (e : MvEngine) (b : EngineState) → StandsFor e b → needed e.archive.snapshots ≡ needed_numbers b
+pub needed_alike : (e : MvEngine) (b : EngineState) → StandsFor e b → needed e.archive.snapshots ≡ needed_numbers b (pins_of e)
 needed_alike e b s =
     let now = length b.installed in
     let f = first_stamp now in
     let same : entries e.archive.snapshots.stamps ≡ mapped f (entries b.active) =
     table-mapped f e.archive.snapshots.stamps b.active (λ q. first_kept (look e.archive.snapshots.stamps q) now (look b.active q) (s.each q).stamps_are) in
-    (λ i. s.keeps.installs_are i ∷ (ap (map (λ e. e.1)) same ∙ seconds f (entries b.active)) i)
+    (λ i. s.keeps.installs_are i ∷ ((ap (map (λ e. e.1)) same ∙ seconds f (entries b.active)) i ++ pinned_numbers (pins_of e)))
 
-pub versions_alike : (e : MvEngine) (b : EngineState) (key : List ℕ) → StandsFor e b → reverse (chain_of e.archive.chains key) ≡ kept_versions b key
+pub versions_alike : (e : MvEngine) (b : EngineState) (key : List ℕ) → StandsFor e b → reverse (chain_of e.archive.chains key) ≡ kept_versions b (pins_of e) key
 versions_alike e b key s = ap reverse (s.keeps.chains_are key ∙ ap (λ ns. filter (is_kept ns) (versions_of b.base b.installed key)) (needed_alike e b s))
+
+-- ---- readers that are pinned
+pub look_alike : (e : MvEngine) (b : EngineState) (id installs : ℕ) (span : Span) → StandsFor e b → look (pins_of e) id ≡ Some installs
+    → all_rows (seen_within e.archive.chains span installs) ≡ rows_within (records_at b.base b.installed installs) span
+look_alike e b id installs span s at =
+    rows_same span (seen_within e.archive.chains span installs) (records_at b.base b.installed installs)
+    (within_at installs e.archive.chains (records_at b.base b.installed installs) span (λ q. seen_alike e.archive b.base b.installed installs q s.keeps (inr (inr (id, at)))))
+
+pub stands_still : (e e' : MvEngine) (b : EngineState) → StandsFor e b → e'.archive.snapshots.stamps ≡ e.archive.snapshots.stamps → Keeps e'.archive b.base b.installed → e'.undecided ≡ e.undecided → StandsFor e' b
+stands_still e e' b s stamps k sets = record {
+  kind_is = s.kind_is;
+  keeps = k;
+  each = λ t. kept_along (ap (λ m. look m t) (sym stamps)) (ap (λ m. look m t) (sym sets)) refl refl (s.each t);
+}
 
 -- ---- one operation more
 pub stands_with : (e e' : MvEngine) (b : EngineState) (t : ℕ) (op : Op) → StandsFor e b → IsTrue (may_operate b t) → e'.archive.snapshots ≡ entered e.archive.snapshots t → Keeps e'.archive b.base b.installed

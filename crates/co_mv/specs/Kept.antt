@@ -1,5 +1,5 @@
 -- What a multiversion engine keeps, and for which states it stands.
-use Rattle.std.specs.Prelude.{ℕ, suc, Bool, true, false, ◌≡◌, ◌⊎◌, ◌<◌, ◌≤◌, ◌&&◌, ◌||◌, ◌==◌, List, [], ◌∷◌, map, filter, length, Option, None, Some}
+use Rattle.std.specs.Prelude.{ℕ, suc, Bool, true, false, ◌≡◌, ◌⊎◌, ◌<◌, ◌≤◌, ◌&&◌, ◌||◌, ◌==◌, List, [], ◌∷◌, ◌++◌, map, filter, length, max, Option, None, Some}
 use Rattle.std.specs.List.{list_all}
 use Rattle.std.specs.Option.{option_map}
 use Rattle.std.specs.FinMap.{empty, entries}
@@ -23,15 +23,24 @@ use Rattle.co_state.specs.declared.engine_state.Sets.{Sets}
 use Rattle.co_state.specs.declared.engine_state.Vote.{Vote}
 use Rattle.co_state.specs.Changes.{sets_of}
 use Rattle.co_state.specs.Keys.{writes_key}
-use Rattle.co_state.specs.Table.{look, put, without}
+use Rattle.co_state.specs.Table.{Table, look, put, without}
+use Rattle.co_stamps.specs.Stamped.{IsStamp}
 
 -- the numbers of installs that active transactions read at
 abbrev pub stamps : Snapshots → List ℕ
 stamps s = map (λ e. e.1) (entries s.stamps)
 
--- and that a new one reads at
+-- those that readers that are pinned read at
+abbrev pub pinned_numbers : Table ℕ → List ℕ
+pinned_numbers pins = map (λ e. e.1) (entries pins)
+
+-- both
+abbrev pub held : Snapshots → List ℕ
+held s = stamps s ++ pinned_numbers s.pins
+
+-- and that of the installs now, which a new reader reads at
 abbrev pub needed : Snapshots → List ℕ
-needed s = s.installs ∷ stamps s
+needed s = s.installs ∷ held s
 
 abbrev pub or_now : ℕ → Option ℕ → ℕ
 or_now now None = now
@@ -40,14 +49,51 @@ or_now now (Some stamp) = stamp
 abbrev pub stamp_of : Snapshots → ℕ → ℕ
 stamp_of s t = or_now s.installs (look s.stamps t)
 
--- the least of these numbers that is at or above another one
-abbrev pub IsNeeded : Snapshots → ℕ → Type 0
-IsNeeded s n = (n ≡ s.installs) ⊎ ((t : ℕ) × (look s.stamps t ≡ Some n))
+-- whether an active transaction or a pin holds a number
+abbrev pub IsHeld : Snapshots → ℕ → Type 0
+IsHeld s n = IsStamp s.stamps n ⊎ IsStamp s.pins n
 
+abbrev pub IsNeeded : Snapshots → ℕ → Type 0
+IsNeeded s n = (n ≡ s.installs) ⊎ IsHeld s n
+
+-- the least number that is held at or above another one, or none where all are below it
+pub record IsLeastHeld (s : Snapshots) (from least : ℕ) : Type 0 where
+  pub is_held : IsHeld s least
+  pub is_above : from ≤ least
+  pub is_least : (n : ℕ) → IsHeld s n → from ≤ n → least ≤ n
+
+abbrev pub IsLeastHeldFrom : Snapshots → ℕ → Option ℕ → Type 0
+IsLeastHeldFrom s from None = (n : ℕ) → IsHeld s n → n < from
+IsLeastHeldFrom s from (Some least) = IsLeastHeld s from least
+
+-- the greatest one below another one, or none where all are at or above it
+pub record IsGreatestHeld (s : Snapshots) (end greatest : ℕ) : Type 0 where
+  pub is_held : IsHeld s greatest
+  pub is_below : greatest < end
+  pub is_greatest : (n : ℕ) → IsHeld s n → n < end → n ≤ greatest
+
+abbrev pub IsGreatestHeldBelow : Snapshots → ℕ → Option ℕ → Type 0
+IsGreatestHeldBelow s end None = (n : ℕ) → IsHeld s n → end ≤ n
+IsGreatestHeldBelow s end (Some greatest) = IsGreatestHeld s end greatest
+
+-- the greater of two numbers, where there are any
+abbrev pub greater : Option ℕ → Option ℕ → Option ℕ
+greater None other = other
+greater (Some n) None = Some n
+greater (Some n) (Some m) = Some (max n m)
+
+-- the least number that is needed at or above another one
 pub record IsNext (s : Snapshots) (from next : ℕ) : Type 0 where
   pub is_needed : IsNeeded s next
   pub is_above : from ≤ next
-  pub is_least : (t n : ℕ) → look s.stamps t ≡ Some n → from ≤ n → next ≤ n
+  pub is_least : (n : ℕ) → IsHeld s n → from ≤ n → next ≤ n
+
+-- one that held a number holds it no more
+pub record IsReleased (old new : Snapshots) (number : ℕ) : Type 0 where
+  pub installs_stay : new.installs ≡ old.installs
+  pub was_held : IsHeld old number
+  pub was : (n : ℕ) → IsHeld new n → IsHeld old n
+  pub others_stay : (n : ℕ) → IsHeld old n → IsHeld new n ⊎ (n ≡ number)
 
 -- whether the install of this number wrote the key; the newest install stands first in the list
 abbrev pub wrote_at : List Install → ℕ → List ℕ → Bool
@@ -78,19 +124,25 @@ entered s t = record s { stamps = put s.stamps t (stamp_of s t) }
 abbrev pub left : Snapshots → ℕ → Snapshots
 left s t = record s { stamps = without s.stamps t }
 
+abbrev pub pinned : Snapshots → ℕ → Snapshots
+pinned s id = record s { pins = put s.pins id s.installs }
+
+abbrev pub unpinned : Snapshots → ℕ → Snapshots
+unpinned s id = record s { pins = without s.pins id }
+
 abbrev pub grown : Snapshots → Snapshots
 grown s = record s { installs = suc s.installs }
 
 -- ---- what is kept for a base and the installs over it
 pub record Keeps (a : Archive) (base : Records) (installed : List Install) : Type 0 where
   pub installs_are : a.snapshots.installs ≡ length installed
-  pub stamps_are : (t n : ℕ) → look a.snapshots.stamps t ≡ Some n → n ≤ a.snapshots.installs
+  pub held_are : (n : ℕ) → IsHeld a.snapshots n → n ≤ a.snapshots.installs
   -- exactly the versions that are read
   pub chains_are : (key : List ℕ) → chain_of a.chains key ≡ filter (is_kept (needed a.snapshots)) (versions_of base installed key)
-  -- and the keys of each install that an active transaction did not see
-  pub recents_are : (t m n : ℕ) (key : List ℕ) → look a.snapshots.stamps t ≡ Some m → m < n → wrote_at installed n key ≡ true → has_key (keys_at a.recents n) key ≡ true
+  -- and the keys of each install that an active transaction or a pinned reader does not see
+  pub recents_are : (m n : ℕ) (key : List ℕ) → IsHeld a.snapshots m → m < n → wrote_at installed n key ≡ true → has_key (keys_at a.recents n) key ≡ true
   -- and of no other install
-  pub recents_end : (n : ℕ) → ((t m : ℕ) → look a.snapshots.stamps t ≡ Some m → n ≤ m) → keys_at a.recents n ≡ []
+  pub recents_end : (n : ℕ) → ((m : ℕ) → IsHeld a.snapshots m → n ≤ m) → keys_at a.recents n ≡ []
   pub recents_bound : (n : ℕ) → a.snapshots.installs < n → keys_at a.recents n ≡ []
 
 -- ---- what is kept of a transaction
@@ -126,7 +178,15 @@ pub record StandsFor (e : MvEngine) (b : EngineState) : Type 0 where
 abbrev pub own_writes : MvEngine → ℕ → List Written
 own_writes e t = (or_nothing (look e.undecided t)).writes
 
--- the records of a range that the next operation of a transaction sees
+-- for each id that is pinned, how many installs there were at its pin
+abbrev pub pins_of : MvEngine → Table ℕ
+pins_of e = e.archive.snapshots.pins
+
+-- the records of a range at a number of installs
+abbrev pub seen_within : Chains → Span → ℕ → Records
+seen_within chains span installs = all_noted installs empty (filter (λ x. span_has span x.0) (entries chains))
+
+-- and those that the next operation of a transaction sees
 abbrev pub visible_within : MvEngine → ℕ → Span → Records
 visible_within e t span =
-    laid_within span (all_noted (stamp_of e.archive.snapshots t) empty (filter (λ x. span_has span x.0) (entries e.archive.chains))) (own_writes e t)
+    laid_within span (seen_within e.archive.chains span (stamp_of e.archive.snapshots t)) (own_writes e t)

@@ -1,6 +1,6 @@
 -- The versions of a key: what it held from one install to another one. The base's row counts as written
 -- before all installs, under the number 0.
-use Rattle.std.specs.Prelude.{ℕ, suc, Bool, true, ◌&&◌, not, nat_le, nat_lt, List, [], ◌∷◌, map, filter, length, reverse, if◌then◌else◌, is_some, Option, None, Some}
+use Rattle.std.specs.Prelude.{ℕ, suc, Bool, true, ◌&&◌, not, nat_le, nat_lt, List, [], ◌∷◌, ◌++◌, map, filter, length, reverse, if◌then◌else◌, is_some, Option, None, Some}
 use Rattle.std.specs.List.{list_any, list_all}
 use Rattle.std.specs.FinMap.{entries, get}
 use Rattle.co_base.specs.declared.written.Written.{Written}
@@ -10,6 +10,7 @@ use Rattle.co_state.specs.declared.engine_state.EngineState.{EngineState}
 use Rattle.co_state.specs.declared.engine_state.Install.{Install}
 use Rattle.co_state.specs.declared.engine_state.Operation.{Operation}
 use Rattle.co_state.specs.Keys.{same_key}
+use Rattle.co_state.specs.Table.{Table}
 
 abbrev pub later : {X : Type 0} → Option X → Option X → Option X
 later None earlier = earlier
@@ -67,13 +68,14 @@ first_stamp now [] = now
 first_stamp now (o ∷ []) = o.stamp
 first_stamp now (o ∷ p ∷ os) = first_stamp now (p ∷ os)
 
--- the needed numbers: that of the installs now, and that at the first operation of each active transaction
-abbrev pub needed_numbers : EngineState → List ℕ
-needed_numbers b = length b.installed ∷ map (λ e. first_stamp (length b.installed) e.1) (entries b.active)
+-- the needed numbers: that of the installs now, that at the first operation of each active transaction, and
+-- that of each pin
+abbrev pub needed_numbers : EngineState → Table ℕ → List ℕ
+needed_numbers b pins = length b.installed ∷ (map (λ e. first_stamp (length b.installed) e.1) (entries b.active) ++ map (λ e. e.1) (entries pins))
 
 -- the kept versions of a key, in the order of installation
-abbrev pub kept_versions : EngineState → List ℕ → List Version
-kept_versions b key = reverse (filter (is_kept (needed_numbers b)) (versions_of b.base b.installed key))
+abbrev pub kept_versions : EngineState → Table ℕ → List ℕ → List Version
+kept_versions b pins key = reverse (filter (is_kept (needed_numbers b pins)) (versions_of b.base b.installed key))
 
 -- ---- what is read
 -- the value at a number of installs

@@ -123,7 +123,7 @@ impl Chain {
         Ok(())
     }
 
-    /// Forgets the versions that no transaction reads. Takes no memory.
+    /// Forgets the versions that no reader reads. Takes no memory.
     pub fn prune(&mut self, snapshots: &Snapshots)
         ensures { self.new ≡ filter (is_kept (needed snapshots.now)) self.old }
     {

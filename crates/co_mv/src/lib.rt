@@ -1,11 +1,11 @@
 //! An engine that keeps versions, so that each transaction reads the records as they were at its first
 //! operation.
 //!
-//! It meets the contract of all engines. What it keeps of a key are exactly the versions that some active
-//! transaction, or a new one, can still read.
+//! It meets the contract of all engines, and that of those whose readers may stay. What it keeps of a key are
+//! exactly the versions that some active transaction, a new one or a pinned reader can still read.
 //!
-//! **What is proved.** The multiversion engine meets the contract of all engines; the versions that it lists of a key are exactly those that some active transaction, or
-//! a new one, can still read.
+//! **What is proved.** The multiversion engine meets the contract of all engines; a reader that is pinned sees the records as they were installed at its pin; the versions
+//! that it lists of a key are exactly those that some active transaction, a new one or a pinned reader can still read.
 #![tactic(auto)]
 
 mod archive;

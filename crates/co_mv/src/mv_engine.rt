@@ -4,7 +4,7 @@ ghost use Rattle.std.specs.FinMap.{get};
 ghost use Rattle.co_base.specs.declared.head.Kind.TheVariants.{Mv};
 ghost use Rattle.co_engine.specs.Calls.{may_operate, seen_of};
 ghost use Rattle.co_mv.specs.Chains.{chain_of};
-ghost use Rattle.co_mv.specs.Kept.{StandsFor, stamp_of, own_writes, visible_within};
+ghost use Rattle.co_mv.specs.Kept.{StandsFor, stamp_of, pins_of, own_writes, seen_within, visible_within};
 ghost use Rattle.co_mv.specs.Versions.{kept_versions, seen_value};
 ghost use Rattle.co_serial.specs.Records.{Records, all_rows, with_changes};
 ghost use Rattle.co_state.specs.declared.engine_state.EngineState.{EngineState};
@@ -15,7 +15,7 @@ use crate::archive::Archive;
 use crate::reading::{all_records, lay_within, records_within, seen_value};
 use crate::stale::least_written;
 use co_base::{Key, Kind, Op, Range, Reply, Rows, Txn, Value, Writes, Written};
-use co_engine::{Dump, Engine, Seen, copy_value, grow, prepared_sets, writing};
+use co_engine::{Dump, Engine, Pinned, Pinning, Seen, copy_value, grow, prepared_sets, writing};
 use co_index::value_after;
 use co_pairs::{Prepared, Sets};
 use co_state::Table;
@@ -24,7 +24,7 @@ use std::alloc::{AllocError, Global};
 /// An engine that keeps versions. Each transaction reads the records as they were at its first operation, with
 /// its own writes laid over, and nobody is blocked.
 ///
-/// A version is kept as long as an active transaction, or a new one, can read it.
+/// A version is kept as long as an active transaction, a new one or a pinned reader can read it.
 #[derive(Drop)]
 pub struct MvEngine {
     archive: Archive,
@@ -36,7 +36,7 @@ impl MvEngine {
     /// How many versions of a key are kept. Takes no memory.
     pub fn versions(&self, key: &Key) -> usize
         ensures kept { result ≡ length (chain_of self.now.archive.chains key.now) }
-        ensures needed { (b : EngineState) → StandsFor self.now b → result ≡ length (kept_versions b key.now) }
+        ensures needed { (b : EngineState) → StandsFor self.now b → result ≡ length (kept_versions b (pins_of self.now) key.now) }
     {
         self.archive.chains.len_of(key)
     }
@@ -45,7 +45,7 @@ impl MvEngine {
     /// was taken away. The place is below the count of versions. Takes no memory.
     pub fn version_at(&self, key: &Key, place: usize) -> Option<&Value>
         requires { place < length (chain_of self.now.archive.chains key.now) }
-        ensures { (b : EngineState) → StandsFor self.now b → slice_get (map (λ v. v.value) (kept_versions b key.now)) place ≡ Some (option_copied result) }
+        ensures { (b : EngineState) → StandsFor self.now b → slice_get (map (λ v. v.value) (kept_versions b (pins_of self.now) key.now)) place ≡ Some (option_copied result) }
     {
         self.archive.chains.value_at(key, place)
     }
@@ -67,6 +67,14 @@ impl MvEngine {
         let stamp = self.archive.snapshots.stamp_of(t);
         let found = seen_value(&self.archive.chains, key, stamp);
         value_after(found, self.own_writes(t), key)
+    }
+
+    /// The records of a range at a number of installs.
+    fn rows_at(&self, alloc: Global, range: &Range, installs: u64) -> Result<Rows, AllocError>
+        ensures { IfOk result (λ rows. rows ≡ all_rows (seen_within self.now.archive.chains range.now installs)) }
+    {
+        let records = records_within(alloc, &self.archive.chains, range, installs)?;
+        Ok(records.into_rows())
     }
 
     /// The records of a range that the next operation of a transaction sees.
@@ -93,7 +101,8 @@ impl MvEngine {
 
     /// Adds an operation to its transaction.
     fn add(&mut self, alloc: Global, t: Txn, op: &Op) -> Result<(), AllocError>
-        ensures { (b : EngineState) → StandsFor self.old b → IsTrue (may_operate b t) → OnOk result (StandsFor self.new (with_operation b t op.now)) }
+        ensures state { (b : EngineState) → StandsFor self.old b → IsTrue (may_operate b t) → OnOk result (StandsFor self.new (with_operation b t op.now)) }
+        ensures pins { pins_of self.new ≡ pins_of self.old }
     {
         grow(alloc, &mut self.undecided, t, op)?;
         self.archive.enter(alloc, t)
@@ -103,6 +112,7 @@ impl MvEngine {
     fn operate(&mut self, alloc: Global, t: Txn, op: &Op) -> Result<Seen, AllocError>
         ensures seen { (b : EngineState) → StandsFor self.old b → IsTrue (may_operate b t) → IfOk result (λ seen. seen ≡ seen_of b t op.now) }
         ensures state { (b : EngineState) → StandsFor self.old b → IsTrue (may_operate b t) → OnOk result (StandsFor self.new (after_operation b t op.now)) }
+        ensures pins { pins_of self.new ≡ pins_of self.old }
     {
         let reply = self.reply(alloc, t, op)?;
         self.add(alloc, t, op)?;
@@ -114,6 +124,8 @@ impl Engine for MvEngine {
     ghost takes = { λ kind. Mv ≡ kind };
 
     ghost stands_for = { StandsFor };
+
+    ghost pins = { pins_of };
 
     fn restore(
         alloc: Global,
@@ -190,5 +202,26 @@ impl Engine for MvEngine {
             rows: records.into_rows(),
             undos: Writes::new(alloc),
         })
+    }
+}
+
+impl Pinning for MvEngine {
+    fn pin(&mut self, alloc: Global, id: u32) -> Result<Pinned, AllocError> {
+        if self.archive.snapshots.pin_of(id).is_some() {
+            return Ok(Pinned::Taken);
+        }
+        self.archive.pin(alloc, id)?;
+        Ok(Pinned::Kept)
+    }
+
+    fn look(&self, alloc: Global, id: u32, range: &Range) -> Result<Option<Rows>, AllocError> {
+        match self.archive.snapshots.pin_of(id) {
+            Some(installs) => Ok(Some(self.rows_at(alloc, range, installs)?)),
+            None => Ok(None),
+        }
+    }
+
+    fn unpin(&mut self, id: u32) {
+        self.archive.unpin(id);
     }
 }

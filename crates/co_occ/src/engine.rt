@@ -5,6 +5,7 @@ ghost use Rattle.co_base.specs.declared.head.Kind.TheVariants.{Occ};
 ghost use Rattle.co_serial.specs.Records.{rows_within};
 ghost use Rattle.co_state.specs.declared.engine_state.EngineState.{EngineState};
 ghost use Rattle.co_state.specs.Effects.{with_operation};
+ghost use Rattle.co_state.specs.Table.{no_entries};
 ghost use Rattle.co_engine.specs.Calls.{may_operate};
 ghost use Rattle.co_occ.specs.Last.{AreLast};
 ghost use Rattle.co_occ.specs.Old.{old_writes};
@@ -137,6 +138,8 @@ impl Engine for OccEngine {
     ghost takes = { λ kind. kind ≡ Occ };
 
     ghost stands_for = { StandsFor };
+
+    ghost pins = { λ _. no_entries };
 
     fn restore(
         alloc: Global,

@@ -8,7 +8,7 @@ ghost use Rattle.co_state.specs.Effects.{after_operation};
 ghost use Rattle.co_state.specs.EngineState.{operations_in, records_now};
 ghost use Rattle.co_state.specs.LockRule.{blocker_by, writes_block};
 ghost use Rattle.co_state.specs.Search.{sets_block};
-ghost use Rattle.co_state.specs.Table.{look, without, first_in};
+ghost use Rattle.co_state.specs.Table.{look, without, first_in, no_entries};
 ghost use Rattle.co_engine.specs.Calls.{may_operate, seen_of};
 ghost use Rattle.co_plain_engine.specs.Plain.{StandsFor, own_operations, own_stamp, own_holder, own_records, voted_roll, with_own};
 
@@ -194,6 +194,8 @@ impl Engine for PlainEngine {
     ghost takes = { λ _. Unit {0} };
 
     ghost stands_for = { StandsFor };
+
+    ghost pins = { λ _. no_entries };
 
     fn restore(
         alloc: Global,

@@ -9,8 +9,8 @@ use Rattle.co_engine.proofs.Rolling.{each_cast}
 use Rattle.co_lock.proofs.Standing.{fits_vote}
 use Rattle.co_lock.proofs.engine.LockEngineEngine.cast.Goals as goal
 
-pub returns : goal.returns
-returns c = λ b coord count s h.
+pub returns-clause-state : goal.returns-clause-state
+returns-clause-state c = λ b coord count s h.
     let t = c.args.t in
     record {
       kind_is = s.kind_is;

@@ -7,8 +7,8 @@ use Rattle.co_engine.proofs.Rolling.{each_gone}
 use Rattle.co_lock.proofs.Standing.{fits_drop}
 use Rattle.co_lock.proofs.engine.LockEngineEngine.drop_txn.Goals as goal
 
-pub returns : goal.returns
-returns c = λ b s h.
+pub returns-clause-state : goal.returns-clause-state
+returns-clause-state c = λ b s h.
     let t = c.args.t in
     record {
       kind_is = s.kind_is;

@@ -13,8 +13,8 @@ use Rattle.co_engine.proofs.Rolling.{each_installed}
 use Rattle.co_lock.proofs.Standing.{fits_install, installs_seen, no_operations}
 use Rattle.co_lock.proofs.engine.LockEngineEngine.install.Goals as goal
 
-pub returns : goal.returns
-returns c = λ b s h. by b s (look b.voted c.args.t) refl h
+pub returns-clause-state : goal.returns-clause-state
+returns-clause-state c = λ b s h. by b s (look b.voted c.args.t) refl h
   where
     by : (b : EngineState) → StandsFor c.args.self.now b → (o : Option Vote) → look b.voted c.args.t ≡ o → is_some o ≡ true
         → StandsFor (record c.args.self.now { place = c.keep.new.self; roll = c.take.new.self }) (install_vote b c.args.t o)

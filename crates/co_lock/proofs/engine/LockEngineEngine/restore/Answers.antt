@@ -44,8 +44,8 @@ loop-place-preserved c =
           (c.in_ok-lay_vote.ensures c.args.rows (drop place voted) i.laid (next_free voted (place - 1) place p c.requires.free (omega (arith, w, t)) (omega (arith, t)) c.index-voted-place.is));
     }
 
-pub returns : goal.returns
-returns c =
+pub returns-clause-state : goal.returns-clause-state
+returns-clause-state c =
     let f = c.loop-place-test.false in
     let none : c.loop-place.place ≡ 0 = omega (arith, f) in
     subst (λ (k : Kind). StandsFor c.loop-place.engine (restored k (records_from c.args.rows) (votes_of c.args.voted.now))) (sym c.requires.taken)

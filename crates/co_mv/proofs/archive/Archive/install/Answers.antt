@@ -13,12 +13,12 @@ returns-in_ok-put-clause-keeps c = λ base is txn k.
     let number : s.installs + 1 ≡ suc s.installs = add-one s.installs in
     keeps_installed c.args.self.now _ base is txn c.args.changes.now (λ i. record s { installs = number i })
     (c.in_ok-write_all.ensures ∙ (λ i. rewritten_all (is_kept (needed (record s { installs = number i }))) (number i) c.args.self.now.chains c.args.changes.now))
-    (noted_put c.args.self.now _ (suc s.installs) c.args.changes.now c.in_ok-keys.keys (c.in_ok-put.ensures ∙ (λ i. put c.args.self.now.recents (number i) c.in_ok-keys.keys)) c.in_ok-keys.ensures (sym c.is_empty.ensures ∙ c.if-not-is_empty.true)) k
+    (noted_put c.args.self.now _ (suc s.installs) c.args.changes.now c.in_ok-keys.keys (c.in_ok-put.ensures ∙ (λ i. put c.args.self.now.recents (number i) c.in_ok-keys.keys)) c.in_ok-keys.ensures (sym c.has_readers.ensures ∙ c.if-has_readers.true)) k
 
-pub returns-else-not-is_empty-clause-keeps : goal.returns-else-not-is_empty-clause-keeps
-returns-else-not-is_empty-clause-keeps c = λ base is txn k.
+pub returns-else-has_readers-clause-keeps : goal.returns-else-has_readers-clause-keeps
+returns-else-has_readers-clause-keeps c = λ base is txn k.
     let s = c.args.self.now.snapshots in
     let number : s.installs + 1 ≡ suc s.installs = add-one s.installs in
     keeps_installed c.args.self.now _ base is txn c.args.changes.now (λ i. record s { installs = number i })
     (c.in_ok-write_all.ensures ∙ (λ i. rewritten_all (is_kept (needed (record s { installs = number i }))) (number i) c.args.self.now.chains c.args.changes.now))
-    (noted_none c.args.self.now (suc s.installs) c.args.changes.now (sym c.is_empty.ensures ∙ c.if-not-is_empty.false)) k
+    (noted_none c.args.self.now (suc s.installs) c.args.changes.now (sym c.has_readers.ensures ∙ c.if-has_readers.false)) k

@@ -13,4 +13,4 @@ returns-clause-seen c = λ b s h.
 
 pub returns-clause-state : goal.returns-clause-state
 returns-clause-state c = λ b s h.
-    subst (λ (o : Option ℕ). StandsFor c.add.new.self (if is_some o then b else with_operation b c.args.t c.args.op.now)) (not_blocked c.args.self.now b c.args.t c.args.op.now s) (c.in_ok-add.ensures b s h)
+    subst (λ (o : Option ℕ). StandsFor c.add.new.self (if is_some o then b else with_operation b c.args.t c.args.op.now)) (not_blocked c.args.self.now b c.args.t c.args.op.now s) (c.in_ok-add.ensures.state b s h)

@@ -8,8 +8,8 @@ use Rattle.co_occ.proofs.Lasting.{are_noted}
 use Rattle.co_occ.proofs.Standing.{installed_with, stands_install, install_absent}
 use Rattle.co_occ.proofs.engine.OccEngineEngine.install.Goals as goal
 
-pub returns : goal.returns
-returns c = λ b s h.
+pub returns-clause-state : goal.returns-clause-state
+returns-clause-state c = λ b s h.
     let o = c.args.self.now in
     let ws = c.in-Some.sets.writes in
     let made : OccEngine = record {
@@ -35,5 +35,5 @@ returns c = λ b s h.
     (stands_install o b c.args.t c.in-Some.sets c.remove.new.self c.forget_old.new.self.lasts s h (sym c.remove.ensures.entry ∙ c.in-Some.is) c.remove.ensures.rest
     (subst (λ (e : OccEngine). AreLast c.forget_old.new.self.lasts (recent_needed e) e.installs) is lasts))
 
-pub returns-in_default : goal.returns-in_default
-returns-in_default c = λ b s h. install_absent c.args.self.now b c.args.t s h (sym c.remove.ensures.entry ∙ c.in_default.is)
+pub returns-in_default-clause-state : goal.returns-in_default-clause-state
+returns-in_default-clause-state c = λ b s h. install_absent c.args.self.now b c.args.t s h (sym c.remove.ensures.entry ∙ c.in_default.is)
