@@ -1,8 +1,8 @@
 //! The engine of any kind.
-ghost use Rattle.co_any.specs.Standing.{StandsFor};
+ghost use Rattle.co_any.specs.Standing.{StandsFor, pins_of};
 
 use co_base::{Key, Kind, Range, Rows, Txn, Value};
-use co_engine::{Dump, Engine, Seen};
+use co_engine::{Dump, Engine, Pinned, Pinning, Seen};
 use co_lock::LockEngine;
 use co_mv::MvEngine;
 use co_occ::OccEngine;
@@ -10,7 +10,7 @@ use co_pairs::{Prepared, Sets};
 use std::alloc::{AllocError, Global};
 
 /// An engine of one of the three kinds. It is restored with every kind, and each call goes to the engine of
-/// that kind.
+/// that kind. Only the engine that keeps versions has pins.
 #[derive(Drop)]
 pub enum AnyEngine {
     /// Strict locking.
@@ -25,6 +25,8 @@ impl Engine for AnyEngine {
     ghost takes = { λ kind. Unit {0} };
 
     ghost stands_for = { StandsFor };
+
+    ghost pins = { pins_of };
 
     fn restore(
         alloc: Global,
@@ -114,6 +116,32 @@ impl Engine for AnyEngine {
             AnyEngine::Lock(engine) => engine.dump(alloc),
             AnyEngine::Occ(engine) => engine.dump(alloc),
             AnyEngine::Mv(engine) => engine.dump(alloc),
+        }
+    }
+}
+
+impl Pinning for AnyEngine {
+    fn pin(&mut self, alloc: Global, id: u32) -> Result<Pinned, AllocError> {
+        match self {
+            AnyEngine::Lock(_) => Ok(Pinned::NotMv),
+            AnyEngine::Occ(_) => Ok(Pinned::NotMv),
+            AnyEngine::Mv(engine) => engine.pin(alloc, id),
+        }
+    }
+
+    fn look(&self, alloc: Global, id: u32, range: &Range) -> Result<Option<Rows>, AllocError> {
+        match self {
+            AnyEngine::Lock(_) => Ok(None),
+            AnyEngine::Occ(_) => Ok(None),
+            AnyEngine::Mv(engine) => engine.look(alloc, id, range),
+        }
+    }
+
+    fn unpin(&mut self, id: u32) {
+        match self {
+            AnyEngine::Lock(_) => {}
+            AnyEngine::Occ(_) => {}
+            AnyEngine::Mv(engine) => engine.unpin(id),
         }
     }
 }

@@ -1,8 +1,9 @@
 //! One engine of any kind: the kind is chosen when it is restored.
 //!
-//! It meets the contract of all engines, for each kind by the engine of that kind.
+//! It meets the contract of all engines, for each kind by the engine of that kind. Readers stay at the engine that keeps versions.
 //!
-//! **What is proved.** The engine of any kind meets the contract of all engines: it is the engine of the kind that it is restored with.
+//! **What is proved.** The engine of any kind meets the contract of all engines and that of readers that stay: it is the engine of the kind that it is restored
+//! with.
 #![tactic(auto)]
 
 mod any_engine;
