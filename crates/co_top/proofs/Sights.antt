@@ -1,12 +1,12 @@
 -- A reader sees over one more line what it sees next.
-use Rattle.std.proofs.Common.{◌≡◌, ⊥, inl, inr, ℕ, suc, ◌+◌, ◌==◌, ◌≤◌, ◌<◌, Bool, true, false, if◌then◌else◌, List, [], ◌∷◌, ◌++◌, length, take, Option, None, Some, refl, sym, ap, ◌∙◌, subst, arith}
+use Rattle.std.proofs.Common.{◌≡◌, inl, inr, ℕ, zero, suc, ◌+◌, ◌==◌, ◌≤◌, ◌<◌, Bool, true, false, if◌then◌else◌, List, [], ◌∷◌, ◌++◌, length, take, Option, None, Some, refl, sym, ap, ◌∙◌, subst, arith}
 use Rattle.std.proofs.lemmas.Bool.{eqb-true, eqb-false}
 use Rattle.std.proofs.lemmas.List.{take-append-le}
 use Rattle.std.proofs.Math.Seq.{take-length}
 use Rattle.co_message.specs.declared.event.Event.{Event}
 use Rattle.co_plain.specs.Federation.{Federation}
 use Rattle.co_plain.specs.Runs.{run, lines}
-use Rattle.co_top.specs.Sights.{state_behind, kind_at, is_up_at, rows_asked, HasCome, Sees, SeesIf, SeesFirst, SeesAt, SeesHead, SeesHeadIf, SeesNext, SeesNextIf, IsAskIf, IsOwnIf}
+use Rattle.co_top.specs.Sights.{state_behind, kind_at, is_up_at, rows_asked, HasCome, Sees, SeesIf, SeesFirst, SeesWhere, SeesAt, SeesHead, SeesHeadIf, SeesNext, SeesNextIf, IsAskIf, IsOwnIf}
 use Rattle.co_top.specs.declared.reader.Ask.{Ask}
 use Rattle.co_top.specs.declared.reader.Looked.{Looked}
 use Rattle.co_top.specs.declared.reader.Looked.TheVariants as looked
@@ -42,7 +42,7 @@ module _ (members : ℕ) (s0 : Federation) (es : List Event) (ask : Ask) (own : 
   pub sees_at : (number : ℕ) → number ≡ suc (length es) → number ≤ ask.line → state_behind s0 es number ≡ z → (seen : Looked) → SeesAt number z ask seen → Sees members s0 es ask seen
   sees_at number last to same seen = by (number == ask.line) refl
     where
-      by : (b : Bool) → (number == ask.line) ≡ b → (if b then SeesFirst z ask seen else (seen ≡ looked.Unopened)) → Sees members s0 es ask seen
+      by : (b : Bool) → (number == ask.line) ≡ b → SeesWhere b z ask seen → Sees members s0 es ask seen
       by true e p = let at = eqb-true number ask.line e in sees_first (sym at ∙ last) (ap (state_behind s0 es) (sym at) ∙ same) seen p
       by false e p = let off = eqb-false number ask.line e in subst (Sees members s0 es ask) (sym p) (own, before off)
         where
@@ -67,12 +67,13 @@ sees_head_if members s0 (Some ask) seen is p = sees_head members s0 ask seen is.
 module _ (s0 : Federation) (es : List Event) (e : Event) where
   -- the states behind the earlier lines stay
   behind_more : (number : ℕ) → number ≤ suc (length es) → state_behind s0 (es ++ e ∷ []) number ≡ state_behind s0 es number
-  behind_more number h = ap (λ done. run (lines done) s0) (take-append-le _ es (e ∷ []) (omega (arith, h)))
+  behind_more zero h = refl
+  behind_more (suc done) h = ap (λ xs. run (lines xs) s0) (take-append-le done es (e ∷ []) (omega (arith, h)))
 
   behind_last : (number : ℕ) → number ≡ length es + 2 → state_behind s0 (es ++ e ∷ []) number ≡ run (lines (es ++ e ∷ [])) s0
   behind_last number is =
       ap (state_behind s0 (es ++ e ∷ [])) (let q : number ≡ suc (length (es ++ e ∷ [])) = omega (arith, is, count_more es e) in q)
-      ∙ ap (λ done. run (lines done) s0) (take-length (es ++ e ∷ []))
+      ∙ ap (λ xs. run (lines xs) s0) (take-length (es ++ e ∷ []))
 
   module _ (members : ℕ) (ask : Ask) (z : Federation) (leaves : run (lines (es ++ e ∷ [])) s0 ≡ z) (number : ℕ) (counted : number ≡ length es + 2) where
     more : HasCome members es ask → HasCome members (es ++ e ∷ []) ask

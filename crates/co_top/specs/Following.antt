@@ -1,5 +1,5 @@
 -- How a schedule is followed to its end, over fresh logs in a directory in memory, and how a command ends that writes of that end.
-use Rattle.std.specs.Prelude.{ℕ, false, ⊥, ◌≡◌, ◌<◌, ◌⊎◌, List, [], ◌++◌, length, take, Option, None, Some, Result, Ok, Err}
+use Rattle.std.specs.Prelude.{ℕ, false, ◌≡◌, ◌<◌, ◌⊎◌, List, [], ◌++◌, length, take, Option, None, Some, Result, Ok, Err}
 use Rattle.co_base.specs.declared.head.Head.{Head}
 use Rattle.co_base.specs.declared.head.Kind.{Kind}
 use Rattle.co_outside.specs.declared.spot.Spot.{Spot}

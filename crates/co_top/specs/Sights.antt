@@ -1,5 +1,5 @@
 -- What a reader sees that comes to a member behind a line of a schedule, and whether it lasts.
-use Rattle.std.specs.Prelude.{⊥, ℕ, suc, Bool, true, false, ◌-◌, ◌==◌, ◌≡◌, ◌≢◌, ◌<◌, ◌≤◌, List, take, length, if◌then◌else◌, Option, None, Some}
+use Rattle.std.specs.Prelude.{ℕ, zero, suc, Bool, true, false, ◌==◌, ◌≡◌, ◌≢◌, ◌<◌, ◌≤◌, List, take, length, if◌then◌else◌, Option, None, Some}
 use Rattle.co_base.specs.declared.head.Kind.{Kind}
 use Rattle.co_base.specs.declared.head.Kind.TheVariants.{Mv}
 use Rattle.co_base.specs.declared.row.Row.{Row}
@@ -18,7 +18,8 @@ ask_for member line low high = record { member = member; line = line; range = re
 
 -- the state behind the line of this number; the head is line 1, and its state the one at the start
 abbrev pub state_behind : Federation → List Event → ℕ → Federation
-state_behind s0 events line = run (lines (take (line - 1) events)) s0
+state_behind s0 events zero = s0
+state_behind s0 events (suc done) = run (lines (take done events)) s0
 
 -- the kind of a member's engine, and whether the member is up
 abbrev pub kind_at : Federation → ℕ → Kind
@@ -68,8 +69,12 @@ SeesFirst s ask looked.Lost = ⊥
 SeesFirst s ask (looked.Rows rows) = (kind_at s ask.member ≡ Mv) × (is_up_at s ask.member ≡ true) × (rows ≡ rows_asked s ask)
 
 -- it comes behind the line that it asks for, and not before
+abbrev pub SeesWhere : Bool → Federation → Ask → Looked → Type 0
+SeesWhere true s ask seen = SeesFirst s ask seen
+SeesWhere false s ask seen = seen ≡ looked.Unopened
+
 abbrev pub SeesAt : ℕ → Federation → Ask → Looked → Type 0
-SeesAt line s ask seen = if line == ask.line then SeesFirst s ask seen else (seen ≡ looked.Unopened)
+SeesAt line s ask seen = SeesWhere (line == ask.line) s ask seen
 
 -- behind the head
 abbrev pub SeesHead : ℕ → Federation → Ask → Looked → Type 0

@@ -1,5 +1,5 @@
 //! A schedule is followed to its end over a directory in memory, and nothing is told of it. A reader may come behind one of its lines.
-ghost use Rattle.std.specs.Prelude.{◌≡◌, ⊥, ℕ, List, [], None, Some, length, IfErr, IfOk, OnOk, IsErrOf};
+ghost use Rattle.std.specs.Prelude.{◌≡◌, ℕ, List, [], None, Some, length, IfErr, IfOk, OnOk, IsErrOf};
 ghost use Rattle.co_base.specs.declared.head.Kind.{Kind};
 ghost use Rattle.co_outside.specs.Faults.{HasRisen};
 ghost use Rattle.co_plain.specs.Federation.{Federation};

@@ -1,5 +1,5 @@
 //! What a reader sees at a multiversion member behind a line of a schedule, if it stays up to the end.
-ghost use Rattle.std.specs.Prelude.{◌≡◌, ◌≤◌, ⊥, ◌++◌, ℕ, List, Some, false, IfErr, IfOk, OnOk, IsErrOf};
+ghost use Rattle.std.specs.Prelude.{◌≡◌, ◌≤◌, ◌++◌, ℕ, List, Some, false, IfErr, IfOk, OnOk, IsErrOf};
 ghost use Rattle.std.specs.Ordering.{is_gt};
 ghost use Rattle.co_base.specs.Letters.{IsText, most_key_bytes};
 ghost use Rattle.co_base.specs.Order.{key_cmp};

@@ -1,5 +1,5 @@
 //! A reader that comes to a member behind a line of a schedule: what it sees, and whether it lasts.
-ghost use Rattle.std.specs.Prelude.{◌≡◌, ◌≤◌, ⊥, length, true, IfOk, OnOk};
+ghost use Rattle.std.specs.Prelude.{◌≡◌, ◌≤◌, length, true, IfOk, OnOk};
 ghost use Rattle.co_base.specs.declared.head.Kind.TheVariants.{Mv};
 ghost use Rattle.co_plain.specs.Federation.{Federation};
 ghost use Rattle.co_world.specs.Standing.{RepresentsWorld};
@@ -59,10 +59,11 @@ fn first_sight<E: Engine + Drop>(alloc: Global, world: &World<E>, ask: &Ask) -> 
         Kind::Lock | Kind::Occ => return Ok(Looked::NotMv),
         Kind::Mv => {}
     }
-    if !world.up(Node::Member(ask.member)) {
-        return Ok(Looked::Down);
+    if world.up(Node::Member(ask.member)) {
+        Ok(Looked::Rows(rows_asked(alloc, world, ask)?))
+    } else {
+        Ok(Looked::Down)
     }
-    Ok(Looked::Rows(rows_asked(alloc, world, ask)?))
 }
 
 /// What a reader sees behind a line who has not come before it.
