@@ -34,6 +34,19 @@ abbrev pub closed : ℕ → List Version → List Version
 closed install [] = []
 closed install (v ∷ vs) = record v { overwritten = closed_by install v.overwritten } ∷ vs
 
+-- a version lies over others, if it is kept
+abbrev pub with_newest : (Version → Bool) → Version → List Version → List Version
+with_newest keep v vs = if keep v then v ∷ vs else vs
+
+-- the newest version is overwritten by an install, and goes if it is not kept
+abbrev pub with_closed : (Version → Bool) → ℕ → List Version → List Version
+with_closed keep install [] = []
+with_closed keep install (v ∷ vs) = with_newest keep (record v { overwritten = closed_by install v.overwritten }) vs
+
+-- and what the install wrote lies over it
+abbrev pub with_write : (Version → Bool) → ℕ → Option (List ℕ) → List Version → List Version
+with_write keep install value vs = with_newest keep (record { written = install; overwritten = None; value = value }) (with_closed keep install vs)
+
 -- the versions after an install that wrote the key, or did not
 abbrev pub written_over : ℕ → Option (Option (List ℕ)) → List Version → List Version
 written_over install None vs = vs

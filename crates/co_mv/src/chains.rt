@@ -136,7 +136,7 @@ impl Chains {
         Ok(chains)
     }
 
-    /// An install writes a key. Of its versions those are kept that are read.
+    /// An install writes a key.
     fn write(
         &mut self,
         alloc: Global,
@@ -148,8 +148,7 @@ impl Chains {
         ensures { OnOk result (self.new ≡ rewritten (is_kept (needed snapshots.now)) install self.old key value) }
     {
         let mut chain = self.take(alloc, &key);
-        chain.write(install, value)?;
-        chain.prune(snapshots);
+        chain.write(install, value, snapshots)?;
         if chain.is_empty() {
             return Ok(());
         }
