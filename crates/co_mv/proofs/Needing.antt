@@ -164,15 +164,6 @@ pub filter-alike : (k k' : Version → Bool) (vs : List Version) → Each (λ v.
 filter-alike k k' [] h = refl
 filter-alike k k' (v ∷ vs) h = (λ i. cond (h.0 i) (v ∷ filter-alike k k' vs h.1 i) (filter-alike k k' vs h.1 i))
 
-closed_step : (n : ℕ) (v : Version) (vs ws : List Version) (a : Bool) → closed_by n v.overwritten ≡ v.overwritten → closed n ws ≡ ws → closed n (cond a (v ∷ ws) ws) ≡ cond a (v ∷ ws) ws
-closed_step n v vs ws true h rest = (λ i. record v { overwritten = h i } ∷ ws)
-closed_step n v vs ws false h rest = rest
-
--- a version that was overwritten stays so
-pub closed-closed : (n : ℕ) (k : Version → Bool) (vs : List Version) → Each (λ v. closed_by n v.overwritten ≡ v.overwritten) vs → closed n (filter k vs) ≡ filter k vs
-closed-closed n k [] h = refl
-closed-closed n k (v ∷ vs) h = closed_step n v vs (filter k vs) (k v) h.0 (closed-closed n k vs h.1)
-
 pub each_closed : (is : List Install) (key : List ℕ) (n m : ℕ) (vs : List Version) → Linked is key (Some m) vs → Each (λ v. closed_by n v.overwritten ≡ v.overwritten) vs
 each_closed is key n m [] l = tt
 each_closed is key n m (v ∷ vs) l = (ap (closed_by n) l.0.ended ∙ sym l.0.ended, each_closed is key n v.written vs l.1)
