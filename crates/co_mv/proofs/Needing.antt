@@ -160,6 +160,15 @@ pub filter-within : (k k' : Version → Bool) (vs : List Version) → Each (λ v
 filter-within k k' [] h = refl
 filter-within k k' (v ∷ vs) h = within_step k k' v vs (k v) (k' v) refl refl h.0 (filter-within k k' vs h.1)
 
+within_alike_step : (k p q : Version → Bool) (v : Version) (ws : List Version) (a : Bool) → k v ≡ a → (k v ≡ true → p v ≡ q v) → filter p ws ≡ filter q ws → filter p (cond a (v ∷ ws) ws) ≡ filter q (cond a (v ∷ ws) ws)
+within_alike_step k p q v ws true e h rest = (λ i. cond (h e i) (v ∷ rest i) (rest i))
+within_alike_step k p q v ws false e h rest = rest
+
+-- two tests that agree on what is left
+pub within-alike : (k p q : Version → Bool) (vs : List Version) → ((v : Version) → k v ≡ true → p v ≡ q v) → filter p (filter k vs) ≡ filter q (filter k vs)
+within-alike k p q [] h = refl
+within-alike k p q (v ∷ vs) h = within_alike_step k p q v (filter k vs) (k v) refl (h v) (within-alike k p q vs h)
+
 pub filter-alike : (k k' : Version → Bool) (vs : List Version) → Each (λ v. k v ≡ k' v) vs → filter k vs ≡ filter k' vs
 filter-alike k k' [] h = refl
 filter-alike k k' (v ∷ vs) h = (λ i. cond (h.0 i) (v ∷ filter-alike k k' vs h.1 i) (filter-alike k k' vs h.1 i))

@@ -1,7 +1,7 @@
 //! The versions of one key.
 ghost use Rattle.std.specs.Prelude.{◌≡◌, ◌==◌, ◌<◌, [], ◌∷◌, Some, map, reverse, filter, length, slice_get, IfOk, OnOk, option_copied};
 ghost use Rattle.std.specs.List.{list_any};
-ghost use Rattle.co_mv.specs.Versions.{seen_value, is_kept, base_versions, written_since, with_newest, with_closed, with_write};
+ghost use Rattle.co_mv.specs.Versions.{seen_value, is_kept, stays, base_versions, written_since, with_newest, with_closed, with_write};
 ghost use Rattle.co_mv.specs.Kept.{needed};
 
 use crate::snapshots::Snapshots;
@@ -145,11 +145,11 @@ impl Chain {
         self.lay(version, snapshots)
     }
 
-    /// Forgets the versions that no reader reads. Takes no memory.
-    pub fn prune(&mut self, snapshots: &Snapshots)
-        ensures { self.new ≡ filter (is_kept (needed snapshots.now)) self.old }
+    /// Forgets the versions that only a reader at this number read, which has gone. Takes no memory.
+    pub fn prune(&mut self, number: u64, snapshots: &Snapshots)
+        ensures { self.new ≡ filter (stays number (needed snapshots.now)) self.old }
     {
         self.oldest_first
-            .retain(|version| snapshots.is_kept(version));
+            .retain(|version| snapshots.stays(version, number));
     }
 }
