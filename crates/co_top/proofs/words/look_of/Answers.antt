@@ -1,19 +1,15 @@
-use Rattle.std.proofs.Common.{◌≡◌, ◌∙◌, ℕ, Bool, true, false, ◌&&◌, not, List, ◌∷◌, decimal, drop, if◌then◌else◌, refl, sym, ap, subst, arith}
+use Rattle.std.proofs.Common.{◌≡◌, ◌∙◌, ℕ, Bool, true, List, ◌∷◌, decimal, drop, if◌then◌else◌, sym, ap, subst, arith}
 use Rattle.std.proofs.lemmas.Bool.{not-true}
 use Rattle.std.specs.Ordering.{is_gt}
 use Rattle.std.specs.Str.Parse.{digits_value}
 use Rattle.std.specs.String.{string_bytes}
 use Rattle.co_base.specs.Letters.{IsText, most_key_bytes}
 use Rattle.co_base.specs.Order.{key_cmp}
-use Rattle.co_schedule.specs.Places.{is_named, is_number, is_text}
-use Rattle.co_schedule.proofs.Numbers.{and_true, value_of-decimal}
+use Rattle.co_schedule.specs.Places.{is_text}
+use Rattle.co_schedule.proofs.Numbers.{and_true, both, value_of-decimal}
 use Rattle.co_schedule.proofs.Texts.{IsText-is_text}
-use Rattle.co_top.specs.Command.{Asked, AsksLook, AsksNothing, are_bounds, is_argument, ask_for}
+use Rattle.co_top.specs.Command.{AsksLook, AsksNothing, are_bounds, is_argument, ask_for}
 use Rattle.co_top.proofs.words.look_of.Goals as goal
-
-both : (a b : Bool) → (a && b) ≡ true → (a ≡ true) × (b ≡ true)
-both true b e = (refl, e)
-both false b e = absurd cc
 
 pub returns-in-Some-Some : goal.returns-in-Some-Some
 returns-in-Some-Some c =
