@@ -1,3 +1,4 @@
+pub mod Pins
 pub mod Plans
 pub mod Standing
 pub mod Conditions

@@ -2,6 +2,7 @@
 ghost use Rattle.std.specs.Prelude.{◌≡◌, ◌≤◌, ℕ, true, Option, None, IfOk, IfErr, IsOk};
 ghost use Rattle.co_log.specs.LogView.{IsHeld};
 ghost use Rattle.co_log.specs.declared.fault.NodeFault.TheVariants.{Memory};
+ghost use Rattle.co_member.specs.Pins.{PinsStay};
 ghost use Rattle.co_outside.specs.Home.{HomeView, File};
 ghost use Rattle.co_outside.specs.declared.spot.Spot.{Spot};
 ghost use Rattle.co_plain.specs.LocalCommit.{member_local_abort};
@@ -32,6 +33,7 @@ impl<E: Engine + Drop> Member<E> {
         ensures memory { IfErr result (λ e. e ≡ Memory) }
         ensures log { self.new.log ≡ self.old.log }
         ensures same { IsSame self.old self.new }
+        ensures pins { PinsStay E.pins self.old self.new }
     {
         let plan = timer_plan(self.running().standing(t));
         self.settle(t, plan)
@@ -57,6 +59,7 @@ impl<E: Engine + Drop> Member<E> {
         ensures memory { IfErr result (λ e. e ≡ Memory) }
         ensures log { self.new.log ≡ self.old.log }
         ensures same { IsSame self.old self.new }
+        ensures pins { PinsStay E.pins self.old self.new }
     {
         let plan = local_abort_plan(self.running().standing(t));
         self.settle(t, plan)
@@ -70,6 +73,7 @@ impl<E: Engine + Drop> Member<E> {
         ensures done { IsOk result }
         ensures held { (home : HomeView) → IsHeld home self.old.log → IsHeld home self.new.log }
         ensures same { IsSame self.old self.new }
+        ensures pins { PinsStay E.pins self.old self.new }
     {
         co_node::arm(&mut self.log, stop, leaves);
         Ok(MemberStep {
@@ -84,6 +88,7 @@ impl<E: Engine + Drop> Member<E> {
         ensures did { (x : MemberState) → RepresentsMember E.stands_for self.old x → RepresentsMember E.stands_for self.new (with_log x (with_stop x.log None)) }
         ensures held { (home : HomeView) → IsHeld home self.old.log → IsHeld home self.new.log }
         ensures same { IsSame self.old self.new }
+        ensures pins { PinsStay E.pins self.old self.new }
     {
         co_node::disarm(&mut self.log);
     }

@@ -7,6 +7,7 @@ ghost use Rattle.co_log.specs.Others.{OtherNodesStay};
 ghost use Rattle.co_plain.specs.MemberLog.{member_checkpoint};
 ghost use Rattle.co_plain.specs.declared.member_state.MemberState.{MemberState};
 ghost use Rattle.co_member.specs.Checkpoint.{prepared_again, point_of, spare_items, MayFill, IsAnsweredIn, IsCheckpointed};
+ghost use Rattle.co_member.specs.Pins.{PinsStay};
 ghost use Rattle.co_member.specs.Standing.{is_up, RepresentsMember, RepresentsRunning, HasDone, IsSame, written_by};
 
 use crate::member::Member;
@@ -101,6 +102,7 @@ impl<E: Engine + Drop> Member<E> {
             (H.seen home.old) (H.seen home.new) (written_by result) }
         ensures rest { OtherNodesStay self.old.log.node (H.seen home.old) (H.seen home.new) }
         ensures same { IsSame self.old self.new }
+        ensures pins { PinsStay E.pins self.old self.new }
     {
         let written = co_node::close(self.alloc, &mut self.log, home);
         self.ended(written, Answer::Closed, None)
@@ -118,6 +120,7 @@ impl<E: Engine + Drop> Member<E> {
             (H.seen home.old) (H.seen home.new) (written_by result) }
         ensures rest { OtherNodesStay self.old.log.node (H.seen home.old) (H.seen home.new) }
         ensures same { IsSame self.old self.new }
+        ensures pins { PinsStay E.pins self.old self.new }
     {
         let items = self.running().spare(self.alloc)?;
         match co_node::fill(self.alloc, &mut self.log, home, items.as_slice())? {
@@ -145,6 +148,7 @@ impl<E: Engine + Drop> Member<E> {
             (H.seen home.old) (H.seen home.new) (written_by result) }
         ensures rest { OtherNodesStay self.old.log.node (H.seen home.old) (H.seen home.new) }
         ensures same { IsSame self.old self.new }
+        ensures pins { PinsStay E.pins self.old self.new }
     {
         if co_node::spare_closed(&self.log) {
             // What is read of either file is within its bounds, also where there is no memory.

@@ -10,6 +10,7 @@ ghost use Rattle.co_plain.specs.MemberStep.{standing_of};
 ghost use Rattle.co_plain.specs.declared.member_state.MemberState.{MemberState};
 ghost use Rattle.co_state.specs.Table.{holds};
 ghost use Rattle.co_member.specs.Conditions.{IsAboutSome, MayTake, MayVote, MayCommit};
+ghost use Rattle.co_member.specs.Pins.{PinsStay, pins_of};
 ghost use Rattle.co_member.specs.Plans.{again_plan, deliver_plan, local_commit_plan, marked};
 ghost use Rattle.co_member.specs.Standing.{is_up, RepresentsMember, HasDone, IsSame, written_by};
 ghost use Rattle.co_node.specs.Writing.{IsAnsweredFor};
@@ -31,6 +32,7 @@ impl<E: Engine + Drop> Member<E> {
         ensures up { is_up self.new ≡ true }
         ensures log { self.new.log ≡ self.old.log }
         ensures same { IsSame self.old self.new }
+        ensures pins { pins_of E.pins self.new ≡ pins_of E.pins self.old }
     {
         match &mut self.running {
             Some(running) => running.take_note(message),
@@ -57,6 +59,7 @@ impl<E: Engine + Drop> Member<E> {
             (H.seen home.old) (H.seen home.new) (written_by result) }
         ensures rest { OtherNodesStay self.old.log.node (H.seen home.old) (H.seen home.new) }
         ensures same { IsSame self.old self.new }
+        ensures pins { PinsStay E.pins self.old self.new }
     {
         // What is read of either file is within its bounds, also where there is no memory.
         let _ = self.log.lengths();
@@ -81,6 +84,7 @@ impl<E: Engine + Drop> Member<E> {
             (H.seen home.old) (H.seen home.new) (written_by result) }
         ensures rest { OtherNodesStay self.old.log.node (H.seen home.old) (H.seen home.new) }
         ensures same { IsSame self.old self.new }
+        ensures pins { PinsStay E.pins self.old self.new }
     {
         // What is read of either file is within its bounds, also where there is no memory.
         let _ = self.log.lengths();
@@ -107,6 +111,7 @@ impl<E: Engine + Drop> Member<E> {
             (H.seen home.old) (H.seen home.new) (written_by result) }
         ensures rest { OtherNodesStay self.old.log.node (H.seen home.old) (H.seen home.new) }
         ensures same { IsSame self.old self.new }
+        ensures pins { PinsStay E.pins self.old self.new }
     {
         // What is read of either file is within its bounds, also where there is no memory.
         let _ = self.log.lengths();
@@ -124,6 +129,7 @@ impl<E: Engine + Drop> Member<E> {
         ensures held { IsHeld (H.seen home.new) self.new.log }
         ensures home { home.new ≡ home.old }
         ensures same { IsSame self.old self.new }
+        ensures pins { PinsStay E.pins self.old self.new }
     {
         co_node::crash(&mut self.log, home);
         self.has(None);

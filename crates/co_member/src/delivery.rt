@@ -5,6 +5,7 @@ ghost use Rattle.co_plain.specs.declared.member_state.MemberState.{MemberState};
 ghost use Rattle.co_record.specs.declared.record.Record.TheVariants as log;
 ghost use Rattle.co_member.specs.Plans.{commit_plan, abort_plan, decide_plan, deliver_plan, marked, plan_of, txn_of};
 ghost use Rattle.co_member.specs.Standing.{RepresentsRunning};
+ghost use Rattle.co_undecided.specs.Pins.{pins_in};
 
 use crate::plan::{Change, Course, Plan, drops, says, sends};
 use crate::running::Running;
@@ -98,7 +99,8 @@ pub(crate) fn txn_of(message: &Message) -> Txn
 impl<E: Engine> Running<E> {
     /// A prepare of an active transaction is marked before the ballot on it.
     pub(crate) fn take_note(&mut self, message: &Message)
-        ensures { (kind : Kind) (x : MemberState) → RepresentsRunning E.stands_for kind self.old x → RepresentsRunning E.stands_for kind self.new (marked x message.now) }
+        ensures stands { (kind : Kind) (x : MemberState) → RepresentsRunning E.stands_for kind self.old x → RepresentsRunning E.stands_for kind self.new (marked x message.now) }
+        ensures pins { pins_in E.pins self.new.undecided ≡ pins_in E.pins self.old.undecided }
     {
         match message {
             Message::Prepare {

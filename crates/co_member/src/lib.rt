@@ -16,8 +16,10 @@
 //!   `arm`, `disarm`, `crash` and `restart` answer, send and tell what the step of the definitions does, and leave it standing for the state after,
 //!   however a log write ends (`did`); so does `op`, of a transaction that has neither voted nor been installed.
 //! - A log write leaves the directory as its answer says (`answered`), and the files of other nodes (`rest`); `attach` gives a member that stands for
-//!   what its log tells (`opened`); the readings (`up`, `knows`, `open_after`, `ballot_of`, `coord_of`) are those of the state, and `past` is what
+//!   what its log tells (`opened`); the readings (`up`, `knows`, `open_after`, `ballot_of`, `coord_of`, `dump`) are those of the state, and `past` is what
 //!   its log tells, also while it is down.
+//! - Pins stay at each event while the member stays up; one that goes down loses them, and a restart brings none back (`PinsStay`). Over an engine
+//!   that pins, `pin`, `look` and `unpin` are those of the engine, and change nothing of the state.
 //! - A restart meets no log that is not allowed.
 #![tactic(auto)]
 
@@ -30,6 +32,7 @@ mod laws;
 mod local;
 mod member;
 mod operation;
+mod pinning;
 mod plan;
 mod reading;
 mod restart;

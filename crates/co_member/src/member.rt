@@ -5,6 +5,7 @@ ghost use Rattle.co_base.specs.declared.node.Node.TheVariants as node;
 ghost use Rattle.co_log.specs.LogView.{IsHeld, IsShort};
 ghost use Rattle.co_log.specs.Others.{OtherNodesStay};
 ghost use Rattle.co_log.specs.declared.fault.NodeFault.TheVariants.{Memory};
+ghost use Rattle.co_member.specs.Pins.{PinsStay, pins_of};
 ghost use Rattle.co_message.specs.declared.answer.Answer.TheVariants as answer;
 ghost use Rattle.co_plain.specs.Member.{prepare_record};
 ghost use Rattle.co_plain.specs.MemberStep.{standing_of};
@@ -66,6 +67,7 @@ impl<E: Engine + Drop> Member<E> {
             OnOk result ((r : Running E) × (self.new.running ≡ Some r) × RepresentsRunning E.stands_for self.old.kind r (changed x t change)) }
         ensures log { self.new.log ≡ self.old.log }
         ensures same { IsSame self.old self.new }
+        ensures pins { pins_of E.pins self.new ≡ pins_of E.pins self.old }
     {
         match &mut self.running {
             Some(running) => running.change(t, change),
@@ -88,6 +90,7 @@ impl<E: Engine + Drop> Member<E> {
         ensures down { self.new.running ≡ None }
         ensures log { self.new.log ≡ self.old.log }
         ensures same { IsSame self.old self.new }
+        ensures pins { PinsStay E.pins self.old self.new }
     {
         self.has(None);
         MemberStep {
@@ -107,6 +110,7 @@ impl<E: Engine + Drop> Member<E> {
         ensures ended { HasEndedAs answer sent written self.old result self.new }
         ensures log { self.new.log ≡ self.old.log }
         ensures same { IsSame self.old self.new }
+        ensures pins { PinsStay E.pins self.old self.new }
     {
         match written {
             Ok(Written::Done { marks }) => Ok(MemberStep {
@@ -145,6 +149,7 @@ impl<E: Engine + Drop> Member<E> {
             (H.seen home.old) (H.seen home.new) (written_by result) }
         ensures rest { OtherNodesStay self.old.log.node (H.seen home.old) (H.seen home.new) }
         ensures same { IsSame self.old self.new }
+        ensures pins { PinsStay E.pins self.old self.new }
     {
         match self.change(t, plan.change) {
             Ok(()) => {
@@ -184,6 +189,7 @@ impl<E: Engine + Drop> Member<E> {
             (H.seen home.old) (H.seen home.new) (written_by result) }
         ensures rest { OtherNodesStay self.old.log.node (H.seen home.old) (H.seen home.new) }
         ensures same { IsSame self.old self.new }
+        ensures pins { PinsStay E.pins self.old self.new }
     {
         match self.change(t, Change::Casts { coord, count }) {
             Ok(()) => {
@@ -224,6 +230,7 @@ impl<E: Engine + Drop> Member<E> {
             (H.seen home.old) (H.seen home.new) (written_by result) }
         ensures rest { OtherNodesStay self.old.log.node (H.seen home.old) (H.seen home.new) }
         ensures same { IsSame self.old self.new }
+        ensures pins { PinsStay E.pins self.old self.new }
     {
         let prepare = self.running().vote_record(t, LOCAL_COORD, count);
         let batch = spell_both(&self.log, prepare, commit_record(self.alloc, t))?;
@@ -262,6 +269,7 @@ impl<E: Engine + Drop> Member<E> {
             (H.seen home.old) (H.seen home.new) (written_by result) }
         ensures rest { OtherNodesStay self.old.log.node (H.seen home.old) (H.seen home.new) }
         ensures same { IsSame self.old self.new }
+        ensures pins { PinsStay E.pins self.old self.new }
     {
         match course {
             Course::Carries(plan) => self.carry_out(home, t, plan),
@@ -279,6 +287,7 @@ impl<E: Engine + Drop> Member<E> {
         ensures memory { IfErr result (λ e. e ≡ Memory) }
         ensures log { self.new.log ≡ self.old.log }
         ensures same { IsSame self.old self.new }
+        ensures pins { PinsStay E.pins self.old self.new }
     {
         match self.change(t, plan.change) {
             Ok(()) => Ok(told(self.alloc, plan)),

@@ -4,12 +4,14 @@ ghost use Rattle.co_base.specs.declared.head.Kind.{Kind};
 ghost use Rattle.co_base.specs.Limits.{most_operations};
 ghost use Rattle.co_engine.specs.Calls.{may_operate};
 ghost use Rattle.co_log.specs.declared.fault.NodeFault.TheVariants.{Memory};
+ghost use Rattle.co_member.specs.Pins.{PinsStay};
 ghost use Rattle.co_plain.specs.Member.{member_op, unless_blocked};
 ghost use Rattle.co_plain.specs.declared.member_state.MemberState.{MemberState};
 ghost use Rattle.co_state.specs.LockRule.{lock_blocker};
 ghost use Rattle.co_state.specs.VotingRule.{kept_count};
 ghost use Rattle.co_undecided.specs.Represented.{kept_at};
 ghost use Rattle.co_member.specs.Standing.{is_up, RepresentsMember, RepresentsRunning, HasAnswered, IsSame};
+ghost use Rattle.co_undecided.specs.Pins.{pins_in};
 
 use crate::member::Member;
 use crate::running::Running;
@@ -27,6 +29,7 @@ impl<E: Engine> Running<E> {
             IfOk result (λ a. a ≡ (unless_blocked x t op.now (lock_blocker x.engine t op.now)).answer) }
         ensures state { (kind : Kind) (x : MemberState) → RepresentsRunning E.stands_for kind self.old x → IsTrue (may_operate x.engine t) →
             OnOk result (RepresentsRunning E.stands_for kind self.new (unless_blocked x t op.now (lock_blocker x.engine t op.now)).state) }
+        ensures pins { pins_in E.pins self.new.undecided ≡ pins_in E.pins self.old.undecided }
     {
         match self.undecided.op(t, op)? {
             Seen::Blocked(u) => Ok(Answer::Blocked(u)),
@@ -42,6 +45,7 @@ impl<E: Engine> Running<E> {
             IfOk result (λ a. a ≡ (member_op x t carried op.now).answer) }
         ensures state { (kind : Kind) (x : MemberState) → RepresentsRunning E.stands_for kind self.old x → IsTrue (may_operate x.engine t) →
             OnOk result (RepresentsRunning E.stands_for kind self.new (member_op x t carried op.now).state) }
+        ensures pins { pins_in E.pins self.new.undecided ≡ pins_in E.pins self.old.undecided }
     {
         let kept = self.undecided.kept(t);
         if kept != carried {
@@ -65,6 +69,7 @@ impl<E: Engine + Drop> Member<E> {
         ensures memory { IfErr result (λ e. e ≡ Memory) }
         ensures log { self.new.log ≡ self.old.log }
         ensures same { IsSame self.old self.new }
+        ensures pins { PinsStay E.pins self.old self.new }
     {
         match &mut self.running {
             Some(running) => Ok(running.op(t, carried, op)?),

@@ -10,11 +10,12 @@ ghost use Rattle.co_vote.specs.Ballots.{verdict_of};
 ghost use Rattle.co_member.specs.Attaching.{IsReadable};
 ghost use Rattle.co_member.specs.Reading.{phase_of, open_after, verdict_where};
 ghost use Rattle.co_member.specs.Standing.{is_up, RepresentsMember};
+ghost use Rattle.co_state.specs.Effects.{dumped_rows, dumped_undos};
 
 use crate::member::Member;
 use crate::restart::recovered;
 use co_base::{Kind, Txn};
-use co_engine::Engine;
+use co_engine::{Dump, Engine};
 use co_log::Log;
 use co_plain::Standing;
 use co_recover::MemberPast;
@@ -102,6 +103,15 @@ impl<E: Engine + Drop> Member<E> {
         ensures { (x : MemberState) → RepresentsMember E.stands_for self.now x → result ≡ coord_asked (look x.engine.voted t) }
     {
         self.running().undecided.coord_of(t)
+    }
+
+    /// The records that are installed here: those that the engine keeps, and the changes that lead back from what undecided transactions wrote in place.
+    pub fn dump(&self) -> Result<Dump, AllocError>
+        requires up { is_up self.now ≡ true }
+        ensures rows { (x : MemberState) → RepresentsMember E.stands_for self.now x → IfOk result (λ dump. dump.rows ≡ dumped_rows x.engine.kind x.engine) }
+        ensures undos { (x : MemberState) → RepresentsMember E.stands_for self.now x → IfOk result (λ dump. dump.undos ≡ dumped_undos x.engine.kind x.engine) }
+    {
+        self.running().undecided.dump()
     }
 
     /// What the records of the log tell, also while the member is down. The log is gone through.

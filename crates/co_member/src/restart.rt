@@ -15,7 +15,10 @@ ghost use Rattle.co_plain.specs.declared.member_state.MemberState.{MemberState};
 ghost use Rattle.co_plain.specs.declared.member_view.MemberView.{MemberView};
 ghost use Rattle.co_recover.specs.Recovered.{past_of_member};
 ghost use Rattle.co_member.specs.Attaching.{IsReadable, IsPastOf, read_by};
+ghost use Rattle.co_member.specs.Pins.{PinsStay, pins_of};
 ghost use Rattle.co_member.specs.Standing.{is_up, RepresentsMember, RepresentsRunning, HasDone, IsSame};
+ghost use Rattle.co_state.specs.Table.{no_entries};
+ghost use Rattle.co_undecided.specs.Pins.{pins_in};
 
 use crate::member::Member;
 use crate::running::Running;
@@ -58,7 +61,8 @@ impl<E: Engine> Running<E> {
     fn restored(alloc: Global, kind: Kind, past: MemberPast) -> Result<Running<E>, AllocError>
         requires takes { E.takes kind }
         requires free { IsTrue (are_free past.voted) }
-        ensures { (l : LogState) (v : MemberView) → past ≡ past_of_member v → IfOk result (λ r. RepresentsRunning E.stands_for kind r (member_with kind l v)) }
+        ensures stands { (l : LogState) (v : MemberView) → past ≡ past_of_member v → IfOk result (λ r. RepresentsRunning E.stands_for kind r (member_with kind l v)) }
+        ensures pins { IfOk result (λ r. pins_in E.pins r.undecided ≡ no_entries) }
     {
         let MemberPast {
             rows,
@@ -88,6 +92,7 @@ impl<E: Engine + Drop> Member<E> {
         requires stands { (l : LogState) × IsPastOf number log past l × IsReadable coords l }
         ensures opened { (l : LogState) → IsPastOf number log past l → IfOk result (λ m. RepresentsMember E.stands_for m (member_with kind l (recovered_view l.stable))) }
         ensures made { IfOk result (λ m. (m.number ≡ number) × (m.kind ≡ kind) × (m.coords ≡ coords) × (m.log ≡ log)) }
+        ensures pins { IfOk result (λ m. pins_of E.pins m ≡ no_entries) }
     {
         match Running::restored(alloc, kind, past) {
             Ok(running) => Ok(Member {
@@ -109,8 +114,9 @@ impl<E: Engine + Drop> Member<E> {
     fn found(&self) -> Result<Running<E>, AllocError>
         requires takes { E.takes self.now.kind }
         requires stands { (owner : Node) × (l : LogState) × RepresentsLog owner self.now.log l × IsReadable self.now.coords l }
-        ensures { (owner : Node) (l after : LogState) → RepresentsLog owner self.now.log l →
+        ensures stands { (owner : Node) (l after : LogState) → RepresentsLog owner self.now.log l →
             IfOk result (λ r. RepresentsRunning E.stands_for self.now.kind r (member_with self.now.kind after (recovered_view l.stable))) }
+        ensures pins { IfOk result (λ r. pins_in E.pins r.undecided ≡ no_entries) }
     {
         let past = recovered(self.alloc, &self.log, self.coords)?;
         Running::restored(self.alloc, self.kind, past)
@@ -129,6 +135,7 @@ impl<E: Engine + Drop> Member<E> {
         ensures files { ((H.seen home.new).file self.old.log.current.spot ≡ (H.seen home.old).file self.old.log.current.spot) × ((H.seen home.new).file self.old.log.spare.spot ≡ (H.seen home.old).file self.old.log.spare.spot) }
         ensures rest { OtherNodesStay self.old.log.node (H.seen home.old) (H.seen home.new) }
         ensures same { IsSame self.old self.new }
+        ensures pins { PinsStay E.pins self.old self.new }
     {
         co_node::reread(&mut self.log, home)?;
         let running = self.found()?;
@@ -156,6 +163,7 @@ impl<E: Engine + Drop> Member<E> {
         ensures files { ((H.seen home.new).file self.old.log.current.spot ≡ (H.seen home.old).file self.old.log.current.spot) × ((H.seen home.new).file self.old.log.spare.spot ≡ (H.seen home.old).file self.old.log.spare.spot) }
         ensures rest { OtherNodesStay self.old.log.node (H.seen home.old) (H.seen home.new) }
         ensures same { IsSame self.old self.new }
+        ensures pins { PinsStay E.pins self.old self.new }
     {
         if self.running.is_some() {
             return Ok(MemberStep {

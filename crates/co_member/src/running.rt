@@ -7,6 +7,7 @@ ghost use Rattle.co_plain.specs.declared.member_state.MemberState.{MemberState};
 ghost use Rattle.co_plain.specs.declared.standing.Standing.TheVariants.{IsVoted};
 ghost use Rattle.co_member.specs.Plans.{changed, marked_by};
 ghost use Rattle.co_member.specs.Standing.{RepresentsRunning, Suits};
+ghost use Rattle.co_undecided.specs.Pins.{pins_in};
 
 use crate::plan::Change;
 use co_base::Txn;
@@ -45,7 +46,8 @@ impl<E: Engine> Running<E> {
 
     /// A prepare of an active transaction is marked. Takes no memory.
     pub(crate) fn mark(&mut self, t: Txn, coord: u8, count: u16)
-        ensures { (kind : Kind) (x : MemberState) → RepresentsRunning E.stands_for kind self.old x → RepresentsRunning E.stands_for kind self.new (marked_by x t coord count (standing_of x t)) }
+        ensures stands { (kind : Kind) (x : MemberState) → RepresentsRunning E.stands_for kind self.old x → RepresentsRunning E.stands_for kind self.new (marked_by x t coord count (standing_of x t)) }
+        ensures pins { pins_in E.pins self.new.undecided ≡ pins_in E.pins self.old.undecided }
     {
         match self.standing(t) {
             Standing::IsActive => self.undecided.mark(t, AskedMark { coord, count }),
@@ -55,7 +57,8 @@ impl<E: Engine> Running<E> {
 
     /// A transaction is dropped, where it is undecided. Takes no memory.
     fn forget(&mut self, t: Txn)
-        ensures { (kind : Kind) (x : MemberState) → RepresentsRunning E.stands_for kind self.old x → RepresentsRunning E.stands_for kind self.new (dropped x t) }
+        ensures stands { (kind : Kind) (x : MemberState) → RepresentsRunning E.stands_for kind self.old x → RepresentsRunning E.stands_for kind self.new (dropped x t) }
+        ensures pins { pins_in E.pins self.new.undecided ≡ pins_in E.pins self.old.undecided }
     {
         match self.undecided.has_voted(t) {
             Some(_) => self.undecided.drop_txn(t),
@@ -65,7 +68,8 @@ impl<E: Engine> Running<E> {
 
     /// A voted transaction is committed.
     fn install(&mut self, t: Txn) -> Result<(), AllocError>
-        ensures { (kind : Kind) (x : MemberState) → RepresentsRunning E.stands_for kind self.old x → standing_of x t ≡ IsVoted → OnOk result (RepresentsRunning E.stands_for kind self.new (installed_state x t)) }
+        ensures stands { (kind : Kind) (x : MemberState) → RepresentsRunning E.stands_for kind self.old x → standing_of x t ≡ IsVoted → OnOk result (RepresentsRunning E.stands_for kind self.new (installed_state x t)) }
+        ensures pins { pins_in E.pins self.new.undecided ≡ pins_in E.pins self.old.undecided }
     {
         self.undecided.install(t)?;
         self.committed.insert(t, ())
@@ -73,7 +77,8 @@ impl<E: Engine> Running<E> {
 
     /// Changes a transaction as a plan says. Only an install may want memory.
     pub(crate) fn change(&mut self, t: Txn, change: Change) -> Result<(), AllocError>
-        ensures { (kind : Kind) (x : MemberState) → RepresentsRunning E.stands_for kind self.old x → Suits x t change → OnOk result (RepresentsRunning E.stands_for kind self.new (changed x t change)) }
+        ensures stands { (kind : Kind) (x : MemberState) → RepresentsRunning E.stands_for kind self.old x → Suits x t change → OnOk result (RepresentsRunning E.stands_for kind self.new (changed x t change)) }
+        ensures pins { pins_in E.pins self.new.undecided ≡ pins_in E.pins self.old.undecided }
     {
         match change {
             Change::Stays => Ok(()),

@@ -12,6 +12,7 @@ ghost use Rattle.co_state.specs.Table.{Table, no_entries, look, put, without, ho
 ghost use Rattle.co_state.specs.VotingRule.{kept_count, vote_of};
 ghost use Rattle.co_vote.specs.Ballots.{verdict_of};
 ghost use Rattle.co_undecided.specs.Kept.{asked_in, coord_asked, kept_in, mark_at, next_open, vote_told};
+ghost use Rattle.co_undecided.specs.Pins.{pins_in};
 ghost use Rattle.co_undecided.specs.Represented.{Represents, HaveEntered, kept_at};
 
 use crate::entries::Entries;
@@ -30,8 +31,8 @@ use std::alloc::{AllocError, Global};
 /// of memory they are only dropped.
 #[derive(Drop)]
 pub struct Undecideds<E> {
-    alloc: Global,
-    engine: E,
+    pub(crate) alloc: Global,
+    pub(crate) engine: E,
     index: Index,
     entries: Entries,
 }
@@ -40,6 +41,7 @@ pub struct Undecideds<E> {
 fn operate<E: Engine>(alloc: Global, engine: &mut E, t: Txn, op: &Op) -> Result<Seen, AllocError>
     ensures seen { (b : EngineState) → E.stands_for engine.old b → IsTrue (may_operate b t) → IfOk result (λ seen. seen ≡ seen_of b t op.now) }
     ensures state { (b : EngineState) → E.stands_for engine.old b → IsTrue (may_operate b t) → OnOk result (E.stands_for engine.new (after_operation b t op.now)) }
+    ensures pins { E.pins engine.new ≡ E.pins engine.old }
 {
     match op {
         Op::Read(key) => engine.read(alloc, t, key),
@@ -97,7 +99,8 @@ impl<E: Engine> Undecideds<E> {
     ) -> Result<Undecideds<E>, AllocError>
         requires taken { E.takes kind }
         requires free { IsTrue (are_free voted.now) }
-        ensures { IfOk result (λ u. Represents E.stands_for u (restored kind (records_from rows) (votes_of voted.now)) no_entries) }
+        ensures stands { IfOk result (λ u. Represents E.stands_for u (restored kind (records_from rows) (votes_of voted.now)) no_entries) }
+        ensures pins { IfOk result (λ u. pins_in E.pins u ≡ no_entries) }
     {
         let mut index = Index::new(alloc);
         let mut entries = Entries::new(alloc);
@@ -206,6 +209,7 @@ impl<E: Engine> Undecideds<E> {
         requires { kept_at self.old t < 65535 }
         ensures seen { (b : EngineState) (asked : Table AskedMark) → Represents E.stands_for self.old b asked → IsTrue (may_operate b t) → IfOk result (λ seen. seen ≡ seen_of b t op.now) }
         ensures stands { (b : EngineState) (asked : Table AskedMark) → Represents E.stands_for self.old b asked → IsTrue (may_operate b t) → OnOk result (Represents E.stands_for self.new (after_operation b t op.now) asked) }
+        ensures pins { pins_in E.pins self.new ≡ pins_in E.pins self.old }
     {
         let entry = one_more(self.entries.get(t));
         let seen = operate(self.alloc, &mut self.engine, t, op)?;
@@ -234,7 +238,8 @@ impl<E: Engine> Undecideds<E> {
 
     /// An active transaction was asked for its vote, which is held. Takes no memory.
     pub fn mark(&mut self, t: Txn, mark: AskedMark)
-        ensures { (b : EngineState) (asked : Table AskedMark) → Represents E.stands_for self.old b asked → IsTrue (holds b.active t) → holds b.voted t ≡ false → Represents E.stands_for self.new b (put asked t mark) }
+        ensures stands { (b : EngineState) (asked : Table AskedMark) → Represents E.stands_for self.old b asked → IsTrue (holds b.active t) → holds b.voted t ≡ false → Represents E.stands_for self.new b (put asked t mark) }
+        ensures pins { pins_in E.pins self.new ≡ pins_in E.pins self.old }
     {
         let kept = self.kept(t);
         self.entries.change(
@@ -248,7 +253,8 @@ impl<E: Engine> Undecideds<E> {
 
     /// An active transaction votes yes, as this coordinator asked, with so many operations. Takes no memory.
     pub fn cast(&mut self, t: Txn, coord: u8, count: u16)
-        ensures { (b : EngineState) (asked : Table AskedMark) → Represents E.stands_for self.old b asked → IsTrue (holds b.active t) → holds b.voted t ≡ false → Represents E.stands_for self.new (after_cast b t coord count) (without asked t) }
+        ensures stands { (b : EngineState) (asked : Table AskedMark) → Represents E.stands_for self.old b asked → IsTrue (holds b.active t) → holds b.voted t ≡ false → Represents E.stands_for self.new (after_cast b t coord count) (without asked t) }
+        ensures pins { pins_in E.pins self.new ≡ pins_in E.pins self.old }
     {
         self.index.cast(self.engine.sets(t), t);
         self.engine.cast(t);
@@ -257,7 +263,8 @@ impl<E: Engine> Undecideds<E> {
 
     /// A voted transaction is committed.
     pub fn install(&mut self, t: Txn) -> Result<(), AllocError>
-        ensures { (b : EngineState) (asked : Table AskedMark) → Represents E.stands_for self.old b asked → IsTrue (holds b.voted t) → holds b.active t ≡ false → OnOk result (Represents E.stands_for self.new (after_install b t) asked) }
+        ensures stands { (b : EngineState) (asked : Table AskedMark) → Represents E.stands_for self.old b asked → IsTrue (holds b.voted t) → holds b.active t ≡ false → OnOk result (Represents E.stands_for self.new (after_install b t) asked) }
+        ensures pins { pins_in E.pins self.new ≡ pins_in E.pins self.old }
     {
         self.index.forget(self.engine.sets(t), t);
         self.engine.install(self.alloc, t)?;
@@ -267,7 +274,8 @@ impl<E: Engine> Undecideds<E> {
 
     /// An undecided transaction is dropped. Takes no memory.
     pub fn drop_txn(&mut self, t: Txn)
-        ensures { (b : EngineState) (asked : Table AskedMark) → Represents E.stands_for self.old b asked → IsTrue (is_undecided b t) → Represents E.stands_for self.new (after_drop b t) (without asked t) }
+        ensures stands { (b : EngineState) (asked : Table AskedMark) → Represents E.stands_for self.old b asked → IsTrue (is_undecided b t) → Represents E.stands_for self.new (after_drop b t) (without asked t) }
+        ensures pins { pins_in E.pins self.new ≡ pins_in E.pins self.old }
     {
         self.index.forget(self.engine.sets(t), t);
         self.engine.drop_txn(t);

@@ -13,4 +13,4 @@ restored-requires-clause-free g c =
 
 pub returns-in-Ok-clause-opened : goal.returns-in-Ok-clause-opened
 returns-in-Ok-clause-opened g c = λ l past.
-    first_stands g.E.Engine.stands_for _ c.in-Ok.running _ refl refl past.log (c.in-Ok.ensures l (recovered_view l.stable) past.past)
+    first_stands g.E.Engine.stands_for _ c.in-Ok.running _ refl refl past.log (c.in-Ok.ensures.stands l (recovered_view l.stable) past.past)

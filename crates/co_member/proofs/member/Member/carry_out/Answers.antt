@@ -1,4 +1,4 @@
-use Rattle.std.proofs.Common.{refl, sym, subst}
+use Rattle.std.proofs.Common.{refl, sym, subst, ◌∙◌}
 use Rattle.std.specs.Prelude.{Err}
 use Rattle.co_base.specs.declared.node.Node.TheVariants as node
 use Rattle.co_log.specs.LogView.{LogView, IsHeld}
@@ -51,3 +51,9 @@ returns-in-Ok-clause-answered g c = λ y r.
     let served = subst (λ (v : LogView). IsAnsweredFor plan.writes n y.log v c.write-written.new.log old new c.write-written.result) c.change.ensures.log (c.write-written.ensures.answered n y.log here) in
     ended_answered n x.log.current.spot (IsTooLongFor plan.writes x.log) y.log.stable (stable_after plan.writes y.log) c.write-written.new.log old new plan.answer plan.sent c.write-written.result (record c.change.new.self { log = c.write-written.new.log }) c.ended.new.self
     c.ended.result c.ended.ensures.ended c.ended.ensures.log refl served
+
+pub returns-in-Err-clause-pins : goal.returns-in-Err-clause-pins
+returns-in-Err-clause-pins g c = λ up. c.change.ensures.pins
+
+pub returns-in-Ok-clause-pins : goal.returns-in-Ok-clause-pins
+returns-in-Ok-clause-pins g c = λ up. c.ended.ensures.pins up ∙ c.change.ensures.pins

@@ -8,4 +8,4 @@ pub returns-clause-running : goal.returns-clause-running
 returns-clause-running g c = λ x r suits.
     let kind = c.args.self.now.kind in
     on_ok c.change.result (λ (now : RepresentsRunning g.E.Engine.stands_for kind c.change.new.self (changed x c.args.t c.args.change)). (c.change.new.self, refl, now))
-    (c.change.ensures kind x (r.running c.in-Some.running c.in-Some.is) suits)
+    (c.change.ensures.stands kind x (r.running c.in-Some.running c.in-Some.is) suits)

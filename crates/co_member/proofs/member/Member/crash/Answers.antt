@@ -1,4 +1,4 @@
-use Rattle.std.proofs.Common.{sym, subst}
+use Rattle.std.proofs.Common.{sym, subst, true≢false, is_some, ap, ◌∙◌}
 use Rattle.co_base.specs.declared.node.Node.TheVariants as node
 use Rattle.co_log.specs.LogView.{LogView}
 use Rattle.co_node.specs.NodeLog.{RepresentsLog}
@@ -15,3 +15,6 @@ returns-clause-did g c = λ y r.
     let n = node.Member x.number in
     let log = subst (λ (v : LogView). RepresentsLog n v (crashed_log y.log)) (sym c.has.ensures.log) (c.crash.ensures.stands n y.log r.log) in
     crashed_step g.E.Engine.stands_for x c.has.new.self y c.new.result c.new.ensures r c.has.ensures.same.number c.has.ensures.same.kind c.has.ensures.running log
+
+pub returns-clause-pins : goal.returns-clause-pins
+returns-clause-pins g c = λ up. absurd (true≢false (sym up ∙ ap is_some c.has.ensures.running))

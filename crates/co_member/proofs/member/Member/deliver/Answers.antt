@@ -91,3 +91,9 @@ returns-clause-answered g c = λ x r.
     let third = subst (λ (i : ℕ). IsAnsweredFor w (node.Member i) y.log c.take_note.new.self.log after old new result) c.take_note.ensures.same.number second in
     let fourth = subst (λ (l : LogState). IsAnsweredFor w (node.Member n) l c.take_note.new.self.log after old new result) (marked_log x m) third in
     subst (λ (v : LogView). IsAnsweredFor w (node.Member n) x.log v after old new result) c.take_note.ensures.log fourth
+
+pub returns-in_err-course-clause-pins : goal.returns-in_err-course-clause-pins
+returns-in_err-course-clause-pins g c = λ up. c.take_note.ensures.pins
+
+pub returns-clause-pins : goal.returns-clause-pins
+returns-clause-pins g c = λ up. c.follow.ensures.pins up ∙ c.take_note.ensures.pins

@@ -10,5 +10,5 @@ restored-requires-clause-free g c =
     let l = c.requires.stands.1 in
     ap (λ (p : MemberPast). are_free p.voted) (c.in_ok-past.ensures c.requires.stands.0 l c.requires.stands.2) ∙ votes_free (recovered_view l.stable).voted c.requires.stands.3.free
 
-pub returns : goal.returns
-returns g c = λ n l after r. c.restored.ensures after (recovered_view l.stable) (c.in_ok-past.ensures n l r)
+pub returns-clause-stands : goal.returns-clause-stands
+returns-clause-stands g c = λ n l after r. c.restored.ensures.stands after (recovered_view l.stable) (c.in_ok-past.ensures n l r)

@@ -1,4 +1,5 @@
-use Rattle.std.proofs.Common.{sym, subst}
+use Rattle.co_member.specs.Pins.{pins_where}
+use Rattle.std.proofs.Common.{sym, subst, ap, ◌∙◌}
 use Rattle.co_base.specs.declared.node.Node.TheVariants as node
 use Rattle.co_log.specs.LogView.{LogView}
 use Rattle.co_node.specs.NodeLog.{RepresentsLog}
@@ -18,4 +19,7 @@ returns-clause-did g c = λ x r.
     let log = subst (λ (v : LogView). RepresentsLog n v x.log) (sym c.in_ok-reread.ensures.log) r.log in
     let log_after = subst (λ (v : LogView). RepresentsLog n v x.log) (sym c.has.ensures.log) log in
     restarted_step g.E.Engine.stands_for m c.has.new.self x c.in_ok-running.running c.new.result c.new.ensures r c.requires.down c.has.ensures.same.number c.has.ensures.same.kind c.has.ensures.running log_after
-    (λ l. c.in_ok-running.ensures n x.log l log)
+    (λ l. c.in_ok-running.ensures.stands n x.log l log)
+
+pub returns-clause-pins : goal.returns-clause-pins
+returns-clause-pins g c = λ up. ap (pins_where g.E.Engine.pins) c.has.ensures.running ∙ c.in_ok-running.ensures.pins ∙ sym (ap (pins_where g.E.Engine.pins) c.requires.down)

@@ -1,4 +1,4 @@
-use Rattle.std.proofs.Common.{ℕ, true, refl, sym, subst}
+use Rattle.std.proofs.Common.{ℕ, true, refl, sym, subst, ◌∙◌}
 use Rattle.std.specs.Prelude.{Some, Err}
 use Rattle.co_base.specs.declared.node.Node.TheVariants as node
 use Rattle.co_log.specs.LogView.{LogView, IsHeld}
@@ -72,3 +72,9 @@ returns-in-Some-clause-answered g c = λ y r active.
     let served = subst (λ (i : Record). IsAnsweredFor (Forces i) n y.log m.log c.force_prepare-written.new.log old new c.force_prepare-written.result) is kept in
     ended_answered n m.log.current.spot (IsTooLongFor w m.log) y.log.stable (stable_after w y.log) c.force_prepare-written.new.log old new answer.Yes (Some (message.Vote c.args.t c.change.new.self.number c.args.coord true)) c.force_prepare-written.result
     (record c.change.new.self { log = c.force_prepare-written.new.log }) c.ended.new.self c.ended.result c.ended.ensures.ended c.ended.ensures.log refl served
+
+pub returns-in-Err-clause-pins : goal.returns-in-Err-clause-pins
+returns-in-Err-clause-pins g c = λ up. c.change.ensures.pins
+
+pub returns-in-Some-clause-pins : goal.returns-in-Some-clause-pins
+returns-in-Some-clause-pins g c = λ up. c.ended.ensures.pins up ∙ c.change.ensures.pins

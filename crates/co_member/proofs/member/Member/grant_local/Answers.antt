@@ -1,4 +1,4 @@
-use Rattle.std.proofs.Common.{◌∷◌, [], List, refl, sym, subst, arith}
+use Rattle.std.proofs.Common.{◌∷◌, [], List, refl, sym, subst, arith, ◌∙◌}
 use Rattle.std.specs.Prelude.{None, Err}
 use Rattle.co_base.specs.declared.node.Node.TheVariants as node
 use Rattle.co_log.specs.Batches.{IsBatchOf}
@@ -109,3 +109,9 @@ returns-in-Ok-clause-answered g c = λ y r active.
     let w = (plan_of (GrantsLocal c.args.count) m.number y c.args.t).writes in
     ended_answered n m.log.current.spot (IsTooLongFor w m.log) y.log.stable (stable_after w y.log) c.force_batch-written.new.log old new answer.Committed None c.force_batch-written.result (record c.change.new.self { log = c.force_batch-written.new.log }) c.ended.new.self c.ended.result
     c.ended.ensures.ended c.ended.ensures.log refl served
+
+pub returns-in-Err-clause-pins : goal.returns-in-Err-clause-pins
+returns-in-Err-clause-pins g c = λ up. c.change.ensures.pins
+
+pub returns-in-Ok-clause-pins : goal.returns-in-Ok-clause-pins
+returns-in-Ok-clause-pins g c = λ up. c.ended.ensures.pins up ∙ c.change.ensures.pins

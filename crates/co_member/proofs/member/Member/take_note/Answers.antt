@@ -9,6 +9,6 @@ use Rattle.co_member.proofs.member.Member.take_note.Goals as goal
 pub returns-clause-did : goal.returns-clause-did
 returns-clause-did g c = λ x r.
     let m = c.args.self.now in
-    let now = c.take_note.ensures m.kind x (r.running c.in-Some.running c.in-Some.is) in
+    let now = c.take_note.ensures.stands m.kind x (r.running c.in-Some.running c.in-Some.is) in
     stands_on g.E.Engine.stands_for m (record m { running = Some c.take_note.new.self }) x (marked x c.args.message.now) c.take_note.new.self r c.requires refl refl refl (marked_up x c.args.message.now) now
     (subst (RepresentsLog (node.Member m.number) m.log) (sym (marked_log x c.args.message.now)) r.log)

@@ -12,14 +12,14 @@ undecided_here (Some os) vote f e = refl
 undecided_here None (Some vote) f e = refl
 undecided_here None None f e = absurd (let z : None ≡ Some f = e in cc)
 
-pub returns-in-Some : goal.returns-in-Some
-returns-in-Some g c = λ kind x s.
+pub returns-in-Some-clause-stands : goal.returns-in-Some-clause-stands
+returns-in-Some-clause-stands g c = λ kind x s.
     let t = c.args.t in
     let mark = sym (c.has_voted.ensures x.engine x.asked s.undecided) ∙ c.in-Some.is in
-    let now = c.drop_txn.ensures x.engine x.asked s.undecided (undecided_here (look x.engine.active t) (look x.engine.voted t) c.in-Some.field-0 mark) in
+    let now = c.drop_txn.ensures.stands x.engine x.asked s.undecided (undecided_here (look x.engine.active t) (look x.engine.voted t) c.in-Some.field-0 mark) in
     keeps g.E.Engine.stands_for kind c.args.self.now c.drop_txn.new.self x (dropped x t) s now refl refl
 
-pub returns-in-None : goal.returns-in-None
-returns-in-None g c = λ kind x s.
+pub returns-in-None-clause-stands : goal.returns-in-None-clause-stands
+returns-in-None-clause-stands g c = λ kind x s.
     let mark = sym (c.has_voted.ensures x.engine x.asked s.undecided) ∙ c.in-None.is in
     keeps g.E.Engine.stands_for kind c.args.self.now c.args.self.now.undecided x (dropped x c.args.t) s (drop_none g.E.Engine.stands_for c.args.self.now.undecided x.engine x.asked c.args.t mark s.undecided) refl refl

@@ -4,5 +4,5 @@ use Rattle.co_member.specs.Plans.{marked}
 use Rattle.co_member.specs.Standing.{RepresentsRunning}
 use Rattle.co_member.proofs.running.Running.take_note.Goals as goal
 
-pub returns-in-Prepare : goal.returns-in-Prepare
-returns-in-Prepare g c = λ kind x s. subst (λ (m : Message). RepresentsRunning g.E.Engine.stands_for kind c.mark.new.self (marked x m)) (sym c.in-Prepare.is) (c.mark.ensures kind x s)
+pub returns-in-Prepare-clause-stands : goal.returns-in-Prepare-clause-stands
+returns-in-Prepare-clause-stands g c = λ kind x s. subst (λ (m : Message). RepresentsRunning g.E.Engine.stands_for kind c.mark.new.self (marked x m)) (sym c.in-Prepare.is) (c.mark.ensures.stands kind x s)

@@ -7,11 +7,11 @@ use Rattle.co_undecided.proofs.Entering.{taken}
 use Rattle.co_undecided.proofs.Standing.{left_apart, left_marks}
 use Rattle.co_undecided.proofs.undecideds.Undecideds.drop_txn.Goals as goal
 
-pub returns : goal.returns
-returns g c = λ b asked r undecided.
+pub returns-clause-stands : goal.returns-clause-stands
+returns-clause-stands g c = λ b asked r undecided.
     let t = c.args.t in
     record {
-      engine = c.drop_txn.ensures b r.engine undecided;
+      engine = c.drop_txn.ensures.state b r.engine undecided;
       index = c.forget.ensures b r.index (c.sets.ensures b r.engine undecided);
       entries = λ u. ap (λ es. look es u) c.take.ensures ∙ taken b asked _ t r.entries (after_drop b t) (without asked t)
           (ap (λ a. entry_of a (look (without b.voted t) t) (look (without asked t) t)) (gone b.active t) ∙ ap (λ v. entry_of None v (look (without asked t) t)) (gone b.voted t))

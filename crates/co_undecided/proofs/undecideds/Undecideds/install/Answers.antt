@@ -8,15 +8,15 @@ use Rattle.co_undecided.proofs.Entering.{taken}
 use Rattle.co_undecided.proofs.Standing.{not_held, held, installed_apart}
 use Rattle.co_undecided.proofs.undecideds.Undecideds.install.Goals as goal
 
-pub returns : goal.returns
-returns g c = λ b asked r is_voted inactive.
+pub returns-clause-stands : goal.returns-clause-stands
+returns-clause-stands g c = λ b asked r is_voted inactive.
     let t = c.args.t in
     let vote = held (look b.voted t) is_voted in
     let idle = not_held (look b.active t) inactive in
     let votes : (after_install b t).voted ≡ without b.voted t = ap (λ v. (install_vote b t v).voted) vote.1 in
     let actives : (after_install b t).active ≡ b.active = ap (λ v. (install_vote b t v).active) vote.1 in
     record {
-      engine = c.in_ok-install.ensures b r.engine is_voted;
+      engine = c.in_ok-install.ensures.state b r.engine is_voted;
       index = index_installed b t vote.0 c.forget.new.self vote.1 idle (c.forget.ensures b r.index (c.sets.ensures b r.engine (voted_undecided b t is_voted)));
       entries = λ u. ap (λ es. look es u) c.take.ensures ∙ taken b asked _ t r.entries (after_install b t) asked
           (ap (λ m. entry_of (look m t) (look (after_install b t).voted t) (look asked t)) actives ∙ ap (λ m. entry_of (look b.active t) (look m t) (look asked t)) votes

@@ -6,8 +6,8 @@ use Rattle.co_undecided.proofs.Entering.{marked}
 use Rattle.co_undecided.proofs.Standing.{not_held, held, marked_marks}
 use Rattle.co_undecided.proofs.undecideds.Undecideds.mark.Goals as goal
 
-pub returns : goal.returns
-returns g c = λ b asked r active unvoted.
+pub returns-clause-stands : goal.returns-clause-stands
+returns-clause-stands g c = λ b asked r active unvoted.
     let t = c.args.t in
     let idle = not_held (look b.voted t) unvoted in
     let os = held (look b.active t) active in

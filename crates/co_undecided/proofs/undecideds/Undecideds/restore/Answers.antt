@@ -31,12 +31,12 @@ loop-left-preserved g c =
       within = omega (arith, c.loop-left.invariant.within);
     }
 
-pub returns : goal.returns
-returns g c =
+pub returns-clause-stands : goal.returns-clause-stands
+returns-clause-stands g c =
     let none : c.loop-left.left ≡ 0 = omega (arith, c.loop-left-test.false) in
     let entered = subst (λ n. HaveEntered c.loop-left.index c.loop-left.entries (drop n c.args.voted.now)) none c.loop-left.invariant.entered in
     record {
-      engine = c.in_ok-engine.ensures;
+      engine = c.in_ok-engine.ensures.state;
       index = entered.indexed c.args.kind (records_from c.args.rows);
       entries = votes_entries c.args.kind (records_from c.args.rows) c.loop-left.entries c.args.voted.now entered.entries;
       apart = λ u h. none_active u;
