@@ -26,6 +26,7 @@ impl Version {
             Some(end) => self.written <= installs && installs < end,
         }
     }
+
     /// Whether the version stays as it was read, once a reader at this number of installs has gone.
     pub fn is_apart_from(&self, installs: u64) -> bool
         ensures { result ≡ is_apart installs self.now }
