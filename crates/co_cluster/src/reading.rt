@@ -1,5 +1,5 @@
 //! What the nodes of a federation tell.
-ghost use Rattle.std.specs.Prelude.{◌≡◌, ◌≤◌, ◌-◌, true, length, MatchOption};
+ghost use Rattle.std.specs.Prelude.{◌≡◌, ◌≤◌, ◌-◌, true, length, IfOk, MatchOption};
 ghost use Rattle.co_base.specs.Limits.{most_coordinators, most_members};
 ghost use Rattle.co_opening.specs.Nodes.{IsMemberAt, IsCoordAt};
 ghost use Rattle.co_member.specs.Reading.{phase_of};
@@ -10,13 +10,15 @@ ghost use Rattle.co_plain.specs.Settling.{IsFirstDown};
 ghost use Rattle.co_schedule.specs.View.{IsNode};
 ghost use Rattle.co_cluster.specs.Readings.{AllUp};
 ghost use Rattle.co_cluster.specs.Standing.{RepresentsCluster};
+ghost use Rattle.co_state.specs.Effects.{dumped_rows, dumped_undos};
 
 use crate::cluster::Cluster;
 use co_base::{Kind, Node, Txn};
 use co_coord::Coord;
-use co_engine::Engine;
+use co_engine::{Dump, Engine};
 use co_member::Member;
 use co_vote::Phase;
+use std::alloc::AllocError;
 
 impl<E: Engine + Drop> Cluster<E> {
     /// How many members there are.
@@ -97,5 +99,16 @@ impl<E: Engine + Drop> Cluster<E> {
         ensures { (s : Federation) → RepresentsCluster E.takes E.stands_for self.now s → result ≡ phase_of (standing_of (s.member member) t) }
     {
         self.member_at(member).knows(t)
+    }
+
+    /// The records that are installed at a member that is up: those that its engine keeps, and the changes that lead back from what undecided
+    /// transactions wrote in place.
+    pub fn dump(&self, member: u8) -> Result<Dump, AllocError>
+        requires in_head { (1 ≤ member) × (member ≤ length self.now.members.items) }
+        requires up { (s : Federation) × RepresentsCluster E.takes E.stands_for self.now s × ((s.member member).up ≡ true) }
+        ensures rows { (s : Federation) → RepresentsCluster E.takes E.stands_for self.now s → IfOk result (λ dump. dump.rows ≡ dumped_rows (s.member member).engine.kind (s.member member).engine) }
+        ensures undos { (s : Federation) → RepresentsCluster E.takes E.stands_for self.now s → IfOk result (λ dump. dump.undos ≡ dumped_undos (s.member member).engine.kind (s.member member).engine) }
+    {
+        self.member_at(member).dump()
     }
 }

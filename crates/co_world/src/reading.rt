@@ -1,5 +1,5 @@
 //! What a federation tells of its nodes and of its clients.
-ghost use Rattle.std.specs.Prelude.{◌≡◌, ◌≤◌, ℕ, true, false, length, map, reverse, MatchOption, IsTrue, ◌↔◌};
+ghost use Rattle.std.specs.Prelude.{◌≡◌, ◌≤◌, ℕ, true, false, length, map, reverse, IfOk, MatchOption, IsTrue, ◌↔◌};
 ghost use Rattle.co_base.specs.declared.node.Node.{Node as PlainNode};
 ghost use Rattle.co_member.specs.Reading.{phase_of};
 ghost use Rattle.co_plain.specs.Federation.{Federation};
@@ -13,14 +13,16 @@ ghost use Rattle.std.specs.FinMap.{keys};
 ghost use Rattle.co_state.specs.Table.{look};
 ghost use Rattle.co_cluster.specs.Conditions.{IsReady};
 ghost use Rattle.co_cluster.specs.Readings.{AllUp, exchange_of, IsFirstOf};
+ghost use Rattle.co_state.specs.Effects.{dumped_rows, dumped_undos};
 ghost use Rattle.co_world.specs.Standing.{RepresentsWorld, StandsUp};
 
 use crate::world::World;
 use co_base::{Kind, Node, Txn};
 use co_cluster::{Due, Exchange};
-use co_engine::Engine;
+use co_engine::{Dump, Engine};
 use co_serial::Site;
 use co_vote::Phase;
+use std::alloc::AllocError;
 
 impl<E: Engine + Drop> World<E> {
     /// Whether a node of the head is up. Takes no memory.
@@ -54,6 +56,17 @@ impl<E: Engine + Drop> World<E> {
         ensures { (s : Federation) → RepresentsWorld E.takes E.stands_for self.now s → result ≡ phase_of (standing_of (s.member member) t) }
     {
         self.cluster.knows(member, t)
+    }
+
+    /// The records that are installed at a member that is up: those that its engine keeps, and the changes that lead back from what undecided
+    /// transactions wrote in place.
+    pub fn dump(&self, member: u8) -> Result<Dump, AllocError>
+        requires in_head { (1 ≤ member) × (member ≤ length self.now.cluster.members.items) }
+        requires up { (s : Federation) × RepresentsWorld E.takes E.stands_for self.now s × ((s.member member).up ≡ true) }
+        ensures rows { (s : Federation) → RepresentsWorld E.takes E.stands_for self.now s → IfOk result (λ dump. dump.rows ≡ dumped_rows (s.member member).engine.kind (s.member member).engine) }
+        ensures undos { (s : Federation) → RepresentsWorld E.takes E.stands_for self.now s → IfOk result (λ dump. dump.undos ≡ dumped_undos (s.member member).engine.kind (s.member member).engine) }
+    {
+        self.cluster.dump(member)
     }
 
     /// Whether a transaction is busy, where no node is down: collecting or committed at a coordinator, voted at a member, or asked for its vote
