@@ -1,5 +1,5 @@
 -- The armed stops of the nodes up to a place are taken away.
-use Rattle.std.proofs.Common.{◌≡◌, ◌<◌, ◌≤◌, ◌+◌, ◌≢◌, ◌⊎◌, inl, inr, ℕ, suc, List, length, set, slice_get, None, Some, refl, sym, ◌∙◌, subst, arith, length-set}
+use Rattle.std.proofs.Common.{◌≡◌, ◌<◌, ◌≤◌, ◌+◌, ◌-◌, ◌≢◌, ◌⊎◌, inl, inr, ℕ, suc, List, length, set, slice_get, Option, None, Some, true, true≢false, refl, sym, ap, ◌∙◌, subst, arith, length-set}
 use Rattle.co_base.specs.declared.head.Kind.{Kind}
 use Rattle.co_base.specs.declared.node.Node.TheVariants as node
 use Rattle.co_outside.specs.Home.{HomeView}
@@ -11,12 +11,15 @@ use Rattle.co_plain.specs.MemberStep.{with_log}
 use Rattle.co_plain.specs.Step.{disarmed}
 use Rattle.co_plain.specs.declared.coord_state.CoordState.{CoordState}
 use Rattle.co_plain.specs.declared.member_state.MemberState.{MemberState}
+use Rattle.co_state.specs.Table.{Table}
 use Rattle.co_state.specs.declared.engine_state.EngineState.{EngineState}
 use Rattle.co_coord.specs.declared.coord.Coord.{Coord}
 use Rattle.co_coord.specs.Standing.{RepresentsCoord, IsSame as IsSameCoord}
 use Rattle.co_member.specs.declared.member.Member.{Member}
+use Rattle.co_member.specs.Pins.{PinsStay as MemberPinsStay}
 use Rattle.co_member.specs.Standing.{RepresentsMember, IsSame as IsSameMember}
 use Rattle.co_opening.specs.Nodes.{IsKept}
+use Rattle.co_cluster.specs.Pins.{PinsStay, is_up_there, pins_there}
 use Rattle.co_cluster.specs.Standing.{RepresentsCluster, AreHeld}
 use Rattle.co_cluster.specs.declared.cluster.Cluster.{Cluster}
 use Rattle.co_cluster.proofs.Places.{set_cases, set_other, within_list}
@@ -46,21 +49,22 @@ module _ {M : Type 0} (R : M → M → Type 0) where
 
 -- ---- the nodes
 
-pub record MemberDisarmed {E : Type 0} (stands_for : E → EngineState → Type 0) (n m : Member E) : Type 0 where
+pub record MemberDisarmed {E : Type 0} (stands_for : E → EngineState → Type 0) (pins : E → Table ℕ) (n m : Member E) : Type 0 where
   pub did : (x : MemberState) → RepresentsMember stands_for n x → RepresentsMember stands_for m (with_log x (with_stop x.log None))
   pub held : (home : HomeView) → IsHeld home n.log → IsHeld home m.log
   pub same : IsSameMember n m
+  pub stay : MemberPinsStay pins n m
 
 pub record CoordDisarmed (n m : Coord) : Type 0 where
   pub did : (y : CoordState) → RepresentsCoord n y → RepresentsCoord m (with_coord_log y (with_stop y.log None))
   pub held : (home : HomeView) → IsHeld home n.log → IsHeld home m.log
   pub same : IsSameCoord n m
 
-pub record IsDisarmedTo {E : Type 0} (stands_for : E → EngineState → Type 0) (old new : Cluster E) (k j : ℕ) : Type 0 where
-  pub members : IsDoneTo (MemberDisarmed stands_for) old.members.items new.members.items k
+pub record IsDisarmedTo {E : Type 0} (stands_for : E → EngineState → Type 0) (pins : E → Table ℕ) (old new : Cluster E) (k j : ℕ) : Type 0 where
+  pub members : IsDoneTo (MemberDisarmed stands_for pins) old.members.items new.members.items k
   pub coords : IsDoneTo CoordDisarmed old.coords.items new.coords.items j
 
-module _ {E : Type 0} (takes : Kind → Type 0) (stands_for : E → EngineState → Type 0) (old new : Cluster E) (d : IsDisarmedTo stands_for old new (length new.members.items) (length new.coords.items)) where
+module _ {E : Type 0} (takes : Kind → Type 0) (stands_for : E → EngineState → Type 0) (pins : E → Table ℕ) (old new : Cluster E) (d : IsDisarmedTo stands_for pins old new (length new.members.items) (length new.coords.items)) where
   pub disarmed_stands : (s : Federation) → RepresentsCluster takes stands_for old s → RepresentsCluster takes stands_for new (disarmed s)
   disarmed_stands s r =
       record {
@@ -95,3 +99,12 @@ module _ {E : Type 0} (takes : Kind → Type 0) (stands_for : E → EngineState 
             let was = held.coord p x.0 x.1 in
             subst (λ n. IsKept home (node.Coord n) c.log) (sym x.2.same.number) (record { held = x.2.held home was.held; within = was.within });
       }
+
+  pub disarmed_pins : PinsStay pins old new
+  disarmed_pins k = by (k - 1) (slice_get new.members.items (k - 1)) refl
+    where
+      by : (p : ℕ) (o : Option (Member E)) → slice_get new.members.items p ≡ o → is_up_there o ≡ true → pins_there pins o ≡ pins_there pins (slice_get old.members.items p)
+      by p None is up = absurd (true≢false (sym up))
+      by p (Some m) is up =
+          let x = d.members.done p m (within_list new.members.items p m is) is in
+          x.2.stay up ∙ ap (pins_there pins) (sym x.1)

@@ -9,6 +9,7 @@ pub mod Leaving
 pub mod CoordLeaving
 pub mod Lefts
 pub mod Disarmed
+pub mod Pinned
 pub mod Readers
 pub mod Lacking
 pub mod Exchanging

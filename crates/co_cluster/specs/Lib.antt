@@ -2,6 +2,7 @@ pub mod Calls
 pub mod Conditions
 pub mod Left
 pub mod Listed
+pub mod Pins
 pub mod Readings
 pub mod Served
 pub mod Standing

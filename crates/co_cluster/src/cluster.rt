@@ -8,6 +8,7 @@ ghost use Rattle.co_plain.specs.Step.{disarmed};
 ghost use Rattle.co_cluster.specs.Calls.{member_does, coord_does, MemberMay, CoordMay};
 ghost use Rattle.co_cluster.specs.Conditions.{IsReady, IsUnsettled};
 ghost use Rattle.co_cluster.specs.Left.{AreLeftWith, member_disarmed, coord_disarmed};
+ghost use Rattle.co_cluster.specs.Pins.{PinsStay};
 ghost use Rattle.co_cluster.specs.Served.{AreServed, HasEndedAs};
 ghost use Rattle.co_cluster.specs.Standing.{RepresentsCluster, AreHeld};
 ghost use Rattle.co_cluster.specs.Telling.{IsTold, IsToldBy};
@@ -86,6 +87,7 @@ impl<E: Engine + Drop> Cluster<E> {
         ensures served { OnOk result (AreServed self.new (H.seen home.old) (H.seen home.new)) }
         ensures ended { IfErr result (λ fault. HasEndedAs fault (H.seen home.old) (H.seen home.new)) }
         ensures rest { OnlyOwnFilesChange (length self.old.members.items) (length self.old.coords.items) (H.seen home.old) (H.seen home.new) }
+        ensures pins { PinsStay E.pins self.old self.new }
     {
         match member_does(&mut self.members[usize::from(member) - 1], home, call) {
             Ok(did) => Ok(did),
@@ -114,6 +116,7 @@ impl<E: Engine + Drop> Cluster<E> {
         ensures served { OnOk result (AreServed self.new (H.seen home.old) (H.seen home.new)) }
         ensures ended { IfErr result (λ fault. HasEndedAs fault (H.seen home.old) (H.seen home.new)) }
         ensures rest { OnlyOwnFilesChange (length self.old.members.items) (length self.old.coords.items) (H.seen home.old) (H.seen home.new) }
+        ensures pins { PinsStay E.pins self.old self.new }
     {
         match coord_does(&mut self.coords[usize::from(coord) - 1], home, call) {
             Ok(did) => Ok(did),
@@ -132,6 +135,7 @@ impl<E: Engine + Drop> Cluster<E> {
         ensures stands { (s : Federation) → RepresentsCluster E.takes E.stands_for self.old s → IsReady s → IsUnsettled (s.member member) t →
             OnOk result (RepresentsCluster E.takes E.stands_for self.new (with_member s member (member_op (s.member member) t carried op.now).state)) }
         ensures held { (home : HomeView) → AreHeld home self.old → AreHeld home self.new }
+        ensures pins { PinsStay E.pins self.old self.new }
     {
         match self.members[usize::from(member) - 1].op(t, carried, op) {
             Ok(answer) => Ok(answer),

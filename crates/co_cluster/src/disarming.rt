@@ -1,4 +1,5 @@
 //! Armed stops are taken away.
+ghost use Rattle.co_cluster.specs.Pins.{PinsStay};
 ghost use Rattle.std.specs.Prelude.{◌≡◌, ℕ, Option, length};
 ghost use Rattle.co_outside.specs.Home.{HomeView, File};
 ghost use Rattle.co_outside.specs.declared.spot.Spot.{Spot};
@@ -15,6 +16,7 @@ impl<E: Engine + Drop> Cluster<E> {
         ensures stands { (s : Federation) → RepresentsCluster E.takes E.stands_for self.old s → RepresentsCluster E.takes E.stands_for self.new (disarmed s) }
         ensures held { (home : HomeView) → AreHeld home self.old → AreHeld home self.new }
         ensures head { (length self.new.members.items ≡ length self.old.members.items) × (length self.new.coords.items ≡ length self.old.coords.items) }
+        ensures pins { PinsStay E.pins self.old self.new }
     {
         for place in 0..self.members.len() {
             self.members[place].disarm();

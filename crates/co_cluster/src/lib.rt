@@ -14,6 +14,8 @@
 //!   state is quiet (`quiet`), the first exchange that can help one transaction (`exchange_with`) and whether an exchange can be about it at all
 //!   (`is_busy`); whether anything is open (`anything_open`, which reads the logs of nodes that are down); where a transaction stands at a member
 //!   (`knows`).
+//! - `dump` is the dump of a member's engine. Pins stay at each member that is up after a call, and one that goes down or up has none (`PinsStay`);
+//!   `pin`, `look` and `unpin` at a member change nothing of the state, and no pins of another member.
 //! - The lists are exact too, with everything that the plain federation has and nothing else, each in its order: the open transactions
 //!   (`still_open`), the members in doubt (`doubts`) and the held votes (`waits`); and the records that the logs alone give (`durable`), which are
 //!   those of the definitions that the law `logs_alone` speaks of.
@@ -34,6 +36,7 @@ mod faults;
 mod members;
 mod noting;
 mod opens;
+mod pinning;
 mod reading;
 mod recovering;
 mod waiting;

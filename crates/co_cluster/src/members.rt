@@ -8,6 +8,7 @@ ghost use Rattle.co_cluster.specs.Calls.{member_does, MemberMay};
 ghost use Rattle.co_opening.specs.Nodes.{IsKept};
 ghost use Rattle.co_cluster.specs.Left.{IsLeftBy, member_disarmed};
 ghost use Rattle.co_cluster.specs.Served.{IsServed, HasFailedAs};
+ghost use Rattle.co_member.specs.Pins.{PinsStay};
 
 use crate::calls::MemberCall;
 use co_engine::Engine;
@@ -36,6 +37,7 @@ pub(crate) fn member_does<E: Engine + Drop, H: Home>(
         (member_does member.old.number call (member_disarmed x)).state.log.stable) }
     ensures rest { OtherNodesStay (node.Member member.old.number) (H.seen home.old) (H.seen home.new) }
     ensures same { IsSame member.old member.new }
+    ensures pins { PinsStay E.pins member.old member.new }
 {
     match call {
         MemberCall::Deliver(message) => member.deliver(home, &message),

@@ -9,6 +9,7 @@ use Rattle.co_plain.specs.Step.{disarmed}
 use Rattle.co_cluster.specs.Left.{AreLeftWith, member_disarmed}
 use Rattle.co_cluster.proofs.Kept.{kept_by_member}
 use Rattle.co_cluster.proofs.Lefts.{member_fault}
+use Rattle.co_cluster.proofs.Pinned.{changed_pins}
 use Rattle.co_cluster.proofs.Places.{at_place}
 use Rattle.co_cluster.proofs.Doing.{are_numbered, member_asked, member_did}
 use Rattle.co_cluster.proofs.cluster.Cluster.member_does.Goals as goal
@@ -95,3 +96,17 @@ returns-in-Err-clause-rest g c =
     let here = at_place w.members.items (c.from.result - 1) c.index_mut.result.now place c.index_mut.ensures.value in
     let number = (c.requires.stands.1.member (c.from.result - 1) c.index_mut.result.now here).number in
     node_changes (length w.members.items) (length w.coords.items) (node.Member c.index_mut.result.now.number) (g.H.Home.seen c.args.home.now) (g.H.Home.seen c.member_does.new.home) (omega (arith, number), omega (arith, number, place)) c.in-Err.ensures.rest
+
+pub returns-in-Ok-clause-pins : goal.returns-in-Ok-clause-pins
+returns-in-Ok-clause-pins g c =
+    let w = c.args.self.now in
+    let place : c.from.result - 1 < length w.members.items = omega arith in
+    let here = at_place w.members.items (c.from.result - 1) c.index_mut.result.now place c.index_mut.ensures.value in
+    changed_pins g.E.Engine.pins w (record w { members = with_item w.members (c.from.result - 1) c.member_does.new.member }) (c.from.result - 1) c.index_mut.result.now c.member_does.new.member here refl c.in-Ok.ensures.pins
+
+pub returns-in-Err-clause-pins : goal.returns-in-Err-clause-pins
+returns-in-Err-clause-pins g c =
+    let w = c.args.self.now in
+    let place : c.from.result - 1 < length w.members.items = omega arith in
+    let here = at_place w.members.items (c.from.result - 1) c.index_mut.result.now place c.index_mut.ensures.value in
+    changed_pins g.E.Engine.pins w (record w { members = with_item w.members (c.from.result - 1) c.member_does.new.member }) (c.from.result - 1) c.index_mut.result.now c.member_does.new.member here refl c.in-Err.ensures.pins

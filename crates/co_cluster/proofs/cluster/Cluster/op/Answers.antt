@@ -2,6 +2,7 @@ use Rattle.std.proofs.Common.{◌≡◌, ◌<◌, ◌-◌, ℕ, length, suc, ref
 use Rattle.std.specs.Vec.{with_item}
 use Rattle.co_cluster.specs.Served.{of_node}
 use Rattle.co_cluster.proofs.Operated.{IsChangedAt, changed_held, operated_at}
+use Rattle.co_cluster.proofs.Pinned.{changed_pins}
 use Rattle.co_cluster.proofs.Places.{at_place}
 use Rattle.co_cluster.proofs.Ready.{few_kept_here}
 use Rattle.co_cluster.proofs.cluster.Cluster.op.Goals as goal
@@ -66,3 +67,17 @@ returns-in-Err-clause-held g c = λ home held.
     let after = record w { members = with_item w.members (c.from.result - 1) c.op.new.self } in
     let changed : IsChangedAt w after (c.from.result - 1) c.index_mut.result.now c.op.new.self = record { here = here; members = refl; coords = refl; same = c.in-Err.ensures.same } in
     changed_held w after (c.from.result - 1) c.index_mut.result.now c.op.new.self changed home c.in-Err.ensures.log held
+
+pub returns-in-Ok-clause-pins : goal.returns-in-Ok-clause-pins
+returns-in-Ok-clause-pins g c =
+    let w = c.args.self.now in
+    let place : c.from.result - 1 < length w.members.items = omega arith in
+    let here = at_place w.members.items (c.from.result - 1) c.index_mut.result.now place c.index_mut.ensures.value in
+    changed_pins g.E.Engine.pins w (record w { members = with_item w.members (c.from.result - 1) c.op.new.self }) (c.from.result - 1) c.index_mut.result.now c.op.new.self here refl c.in-Ok.ensures.pins
+
+pub returns-in-Err-clause-pins : goal.returns-in-Err-clause-pins
+returns-in-Err-clause-pins g c =
+    let w = c.args.self.now in
+    let place : c.from.result - 1 < length w.members.items = omega arith in
+    let here = at_place w.members.items (c.from.result - 1) c.index_mut.result.now place c.index_mut.ensures.value in
+    changed_pins g.E.Engine.pins w (record w { members = with_item w.members (c.from.result - 1) c.op.new.self }) (c.from.result - 1) c.index_mut.result.now c.op.new.self here refl c.in-Err.ensures.pins
