@@ -11,10 +11,13 @@ use Rattle.co_plain.specs.declared.coord_state.CoordState.{CoordState}
 use Rattle.co_plain.specs.declared.member_state.MemberState.{MemberState}
 use Rattle.co_plain.specs.declared.session.Session.{Session}
 use Rattle.co_state.specs.declared.engine_state.EngineState.{EngineState}
+use Rattle.co_state.specs.Table.{Table}
 use Rattle.co_cluster.specs.Left.{AreLeftAs}
+use Rattle.co_cluster.specs.Pins.{PinsStay as ClusterPinsStay}
 use Rattle.co_cluster.specs.Standing.{RepresentsCluster}
 use Rattle.co_cluster.specs.declared.cluster.Cluster.{Cluster}
 use Rattle.co_cluster.proofs.Lefts as nodes
+use Rattle.co_world.specs.Pins.{PinsStay}
 use Rattle.co_world.specs.Standing.{RepresentsWorld, AreHeld}
 use Rattle.co_world.specs.declared.world.World.{World}
 
@@ -31,6 +34,10 @@ module _ {E : Type 0} (takes : Kind → Type 0) (stands_for : E → EngineState 
   pub all_disarmed : (w : World E) (c : Cluster E) (s : Federation) → RepresentsWorld takes stands_for w s → RepresentsCluster takes stands_for c (disarmed s) →
       RepresentsWorld takes stands_for (record w { cluster = c }) (disarmed s)
   all_disarmed w c s r now = record { cluster = now; sessions = r.sessions; used = r.used; counted = r.counted; wire = r.wire; homes = r.homes }
+
+  -- the nodes are others, and stand for the same plain ones
+  pub nodes_stand : (w : World E) (c : Cluster E) (s : Federation) → RepresentsWorld takes stands_for w s → RepresentsCluster takes stands_for c s → RepresentsWorld takes stands_for (record w { cluster = c }) s
+  nodes_stand w c s r now = record { cluster = now; sessions = r.sessions; used = r.used; counted = r.counted; wire = r.wire; homes = r.homes }
 
   -- what a client did is not the nodes'
   pub beside_session : (c : Cluster E) (s : Federation) (t : ℕ) (session : Session) → RepresentsCluster takes stands_for c s → RepresentsCluster takes stands_for c (with_session s t session)
@@ -73,3 +80,7 @@ module _ {E : Type 0} (takes : Kind → Type 0) (stands_for : E → EngineState 
   -- the files of its nodes have the stable records of the plain federation
   pub held_left : (w : World E) (s : Federation) (home : HomeView) → RepresentsWorld takes stands_for w s → AreHeld home w → AreLeftAs home.file s
   held_left w s home r held = nodes.held_left takes stands_for w.cluster s home r.cluster held
+
+-- what is sent and told afterwards leaves the pins
+pub pins_on : {E : Type 0} (pins : E → Table ℕ) (old mid new : World E) → PinsStay pins old mid → new.cluster ≡ mid.cluster → PinsStay pins old new
+pins_on {E} pins old mid new stay same = subst (λ (c : Cluster E). ClusterPinsStay pins old.cluster c) (sym same) stay

@@ -3,3 +3,4 @@ pub mod Standing
 pub mod Answered
 pub mod Attached
 pub mod Counting
+pub mod Pins

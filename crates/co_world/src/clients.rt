@@ -23,6 +23,7 @@ ghost use Rattle.co_world.specs.Standing.{RepresentsWorld, AreHeld};
 ghost use Rattle.co_cluster.specs.Served.{IsOfNoFile};
 ghost use Rattle.co_world.specs.Answered.{AnswersEvent};
 ghost use Rattle.co_opening.specs.Rest.{OnlyOwnFilesChange};
+ghost use Rattle.co_world.specs.Pins.{PinsStay};
 
 use crate::world::World;
 use co_base::{Node, Op, Parts, Reply, Rows, Txn, copy_rows};
@@ -134,6 +135,7 @@ impl<E: Engine + Drop> World<E> {
         ensures answered { (s : Federation) → RepresentsWorld E.takes E.stands_for self.old s →
             AnswersEvent E.takes E.stands_for number (λ z. step_line z (event.Begin t coord)) s self.new (H.seen home.old) (H.seen home.new) result }
         ensures rest { OnlyOwnFilesChange (length self.old.cluster.members.items) (length self.old.cluster.coords.items) (H.seen home.old) (H.seen home.new) }
+        ensures pins { PinsStay E.pins self.old self.new }
     {
         if self.used(t)? {
             return self.answers(number, Answer::Used);
@@ -159,6 +161,7 @@ impl<E: Engine + Drop> World<E> {
         ensures stands { (s : Federation) → RepresentsWorld E.takes E.stands_for self.old s → OnOk result (RepresentsWorld E.takes E.stands_for self.new (step_line s (event.Local t member)).state) }
         ensures held { (home : HomeView) → AreHeld home self.old → OnOk result (AreHeld home self.new) }
         ensures ended { IfErr result IsOfNoFile }
+        ensures nodes { self.new.cluster ≡ self.old.cluster }
     {
         if self.used(t)? {
             return self.answers(number, Answer::Used);
@@ -184,6 +187,7 @@ impl<E: Engine + Drop> World<E> {
         ensures stands { (s : Federation) → RepresentsWorld E.takes E.stands_for self.old s → IsReady s → OnOk result (RepresentsWorld E.takes E.stands_for self.new (operate s t member op).state) }
         ensures held { (home : HomeView) → AreHeld home self.old → OnOk result (AreHeld home self.new) }
         ensures memory { IfErr result (λ fault. fault ≡ WorldFault.Memory) }
+        ensures pins { PinsStay E.pins self.old self.new }
     {
         match self.sessions.may_act(t, Some(member)) {
             Ok(_) => self.operated(number, t, member, op),
@@ -199,6 +203,7 @@ impl<E: Engine + Drop> World<E> {
         ensures stands { (s : Federation) → RepresentsWorld E.takes E.stands_for self.old s → IsReady s → (session : Session) → leave_to_visit (look s.sessions t) member ≡ Grants session → OnOk result (RepresentsWorld E.takes E.stands_for self.new (operate s t member op).state) }
         ensures held { (home : HomeView) → AreHeld home self.old → OnOk result (AreHeld home self.new) }
         ensures memory { IfErr result (λ fault. fault ≡ WorldFault.Memory) }
+        ensures pins { PinsStay E.pins self.old self.new }
     {
         if !self.member_up(member) {
             return self.answers(number, Answer::Down(Node::Member(member)));
@@ -219,6 +224,7 @@ impl<E: Engine + Drop> World<E> {
             OnOk result (RepresentsWorld E.takes E.stands_for self.new (with_member s member (member_op (s.member member) t (count_at session.told member) op.now).state)) }
         ensures sessions { self.new.sessions ≡ self.old.sessions }
         ensures held { (home : HomeView) → AreHeld home self.old → AreHeld home self.new }
+        ensures pins { PinsStay E.pins self.old self.new }
     {
         let carried = self.sessions.carried(t, member);
         self.cluster.op(member, t, carried, op)
@@ -233,6 +239,7 @@ impl<E: Engine + Drop> World<E> {
         ensures stands { (s : Federation) → RepresentsWorld E.takes E.stands_for self.old s → (session : Session) → look s.sessions t ≡ Some session →
             OnOk result (RepresentsWorld E.takes E.stands_for self.new (entered s t session member op (reply_in answer.now))) }
         ensures held { (home : HomeView) → AreHeld home self.old → AreHeld home self.new }
+        ensures nodes { self.new.cluster ≡ self.old.cluster }
     {
         match reply_in(self.alloc, answer)? {
             Some(reply) => Ok(self.sessions.answered(t, Site { member, op }, reply)?),
@@ -246,6 +253,7 @@ impl<E: Engine + Drop> World<E> {
         ensures stands { (s : Federation) → RepresentsWorld E.takes E.stands_for self.old s → (session : Session) → look s.sessions t ≡ Some session →
             RepresentsWorld E.takes E.stands_for self.new (marked_asked s t session answered) }
         ensures held { (home : HomeView) → AreHeld home self.old → AreHeld home self.new }
+        ensures nodes { self.new.cluster ≡ self.old.cluster }
     {
         if answered {
             self.sessions.asked(t);
@@ -266,6 +274,7 @@ impl<E: Engine + Drop> World<E> {
         ensures answered { (s : Federation) → RepresentsWorld E.takes E.stands_for self.old s → IsReady s →
             AnswersEvent E.takes E.stands_for number (λ z. ended z t ending) s self.new (H.seen home.old) (H.seen home.new) result }
         ensures rest { OnlyOwnFilesChange (length self.old.cluster.members.items) (length self.old.cluster.coords.items) (H.seen home.old) (H.seen home.new) }
+        ensures pins { PinsStay E.pins self.old self.new }
     {
         match self.sessions.may_act(t, None) {
             Ok(Node::Coord(coord)) => self.end_at_coord(home, number, t, coord, ending),
@@ -290,6 +299,7 @@ impl<E: Engine + Drop> World<E> {
         ensures answered { (s : Federation) → RepresentsWorld E.takes E.stands_for self.old s → (session : Session) → look s.sessions t ≡ Some session →
             AnswersEvent E.takes E.stands_for number (λ z. coord_answers z t session coord (z.coord coord).up (coord_does coord (coord_call ending t (parts_of session.told)) (z.coord coord))) s self.new (H.seen home.old) (H.seen home.new) result }
         ensures rest { OnlyOwnFilesChange (length self.old.cluster.members.items) (length self.old.cluster.coords.items) (H.seen home.old) (H.seen home.new) }
+        ensures pins { PinsStay E.pins self.old self.new }
     {
         if !self.coord_up(coord) {
             return self.answers(number, Answer::Down(Node::Coord(coord)));
@@ -316,6 +326,7 @@ impl<E: Engine + Drop> World<E> {
         ensures answered { (s : Federation) → RepresentsWorld E.takes E.stands_for self.old s → (session : Session) → look s.sessions t ≡ Some session →
             AnswersEvent E.takes E.stands_for number (λ z. local_answers z t session member (z.member member).up (member_does member (member_call ending t (count_at session.told member)) (z.member member))) s self.new (H.seen home.old) (H.seen home.new) result }
         ensures rest { OnlyOwnFilesChange (length self.old.cluster.members.items) (length self.old.cluster.coords.items) (H.seen home.old) (H.seen home.new) }
+        ensures pins { PinsStay E.pins self.old self.new }
     {
         if !self.member_up(member) {
             return self.answers(number, Answer::Down(Node::Member(member)));

@@ -3,6 +3,7 @@ ghost use Rattle.std.specs.Prelude.{◌≡◌, length};
 ghost use Rattle.co_outside.specs.Home.{HomeView};
 ghost use Rattle.co_plain.specs.Federation.{Federation};
 ghost use Rattle.co_plain.specs.Step.{disarmed};
+ghost use Rattle.co_world.specs.Pins.{PinsStay};
 ghost use Rattle.co_world.specs.Standing.{RepresentsWorld, AreHeld};
 
 use crate::world::World;
@@ -14,6 +15,7 @@ impl<E: Engine + Drop> World<E> {
         ensures stands { (s : Federation) → RepresentsWorld E.takes E.stands_for self.old s → RepresentsWorld E.takes E.stands_for self.new (disarmed s) }
         ensures held { (home : HomeView) → AreHeld home self.old → AreHeld home self.new }
         ensures head { (length self.new.cluster.members.items ≡ length self.old.cluster.members.items) × (length self.new.cluster.coords.items ≡ length self.old.cluster.coords.items) }
+        ensures pins { PinsStay E.pins self.old self.new }
     {
         self.cluster.disarm();
     }

@@ -8,6 +8,7 @@ ghost use Rattle.co_cluster.specs.Calls.{member_does, coord_does, MemberMay, Coo
 ghost use Rattle.co_world.specs.Standing.{RepresentsWorld, AreHeld};
 ghost use Rattle.co_world.specs.Answered.{AnswersEvent};
 ghost use Rattle.co_opening.specs.Rest.{OnlyOwnFilesChange};
+ghost use Rattle.co_world.specs.Pins.{PinsStay};
 
 use crate::world::World;
 use co_base::Node;
@@ -43,6 +44,7 @@ impl<E: Engine + Drop> World<E> {
         ensures stands { (s : Federation) → RepresentsWorld E.takes E.stands_for self.old s → OnOk result (RepresentsWorld E.takes E.stands_for self.new (noted s did.marks (message_list did.sent))) }
         ensures held { (home : HomeView) → AreHeld home self.old → OnOk result (AreHeld home self.new) }
         ensures memory { IfErr result (λ fault. fault ≡ WorldFault.Memory) }
+        ensures nodes { self.new.cluster ≡ self.old.cluster }
     {
         let MemberStep {
             answer,
@@ -63,6 +65,7 @@ impl<E: Engine + Drop> World<E> {
         ensures stands { (s : Federation) → RepresentsWorld E.takes E.stands_for self.old s → OnOk result (RepresentsWorld E.takes E.stands_for self.new (noted s did.marks did.sent)) }
         ensures held { (home : HomeView) → AreHeld home self.old → OnOk result (AreHeld home self.new) }
         ensures memory { IfErr result (λ fault. fault ≡ WorldFault.Memory) }
+        ensures nodes { self.new.cluster ≡ self.old.cluster }
     {
         let CoordStep {
             answer,
@@ -87,6 +90,7 @@ impl<E: Engine + Drop> World<E> {
         ensures answered { (s : Federation) → RepresentsWorld E.takes E.stands_for self.old s →
             AnswersEvent E.takes E.stands_for number (λ z. member_step z member (member_does member call)) s self.new (H.seen home.old) (H.seen home.new) result }
         ensures rest { OnlyOwnFilesChange (length self.old.cluster.members.items) (length self.old.cluster.coords.items) (H.seen home.old) (H.seen home.new) }
+        ensures pins { PinsStay E.pins self.old self.new }
     {
         if !self.member_up(member) {
             return self.answers(number, Answer::Down(Node::Member(member)));
@@ -110,6 +114,7 @@ impl<E: Engine + Drop> World<E> {
         ensures answered { (s : Federation) → RepresentsWorld E.takes E.stands_for self.old s →
             AnswersEvent E.takes E.stands_for number (λ z. coord_step z coord (coord_does coord call)) s self.new (H.seen home.old) (H.seen home.new) result }
         ensures rest { OnlyOwnFilesChange (length self.old.cluster.members.items) (length self.old.cluster.coords.items) (H.seen home.old) (H.seen home.new) }
+        ensures pins { PinsStay E.pins self.old self.new }
     {
         if !self.coord_up(coord) {
             return self.answers(number, Answer::Down(Node::Coord(coord)));

@@ -8,6 +8,7 @@ ghost use Rattle.co_state.specs.Table.{holds};
 ghost use Rattle.co_world.specs.Standing.{RepresentsWorld, AreHeld};
 ghost use Rattle.co_world.specs.Answered.{AnswersEvent};
 ghost use Rattle.co_opening.specs.Rest.{OnlyOwnFilesChange};
+ghost use Rattle.co_world.specs.Pins.{PinsStay};
 
 use crate::world::World;
 use co_base::Txn;
@@ -50,6 +51,7 @@ impl<E: Engine + Drop> World<E> {
         ensures answered { (s : Federation) → RepresentsWorld E.takes E.stands_for self.old s →
             AnswersEvent E.takes E.stands_for number (λ z. step z (happening.Hand t member commit)) s self.new (H.seen home.old) (H.seen home.new) result }
         ensures rest { OnlyOwnFilesChange (length self.old.cluster.members.items) (length self.old.cluster.coords.items) (H.seen home.old) (H.seen home.new) }
+        ensures pins { PinsStay E.pins self.old self.new }
     {
         let coord = self.asker_of(member, t);
         let decision = Message::Decide {

@@ -18,6 +18,8 @@
 //!   the plain federation; `count`, by what is kept of the clients).
 //! - All readings and lists of the nodes are those of `co_cluster`; beside them it tells what a client carries at a member (`carried`), which
 //!   operations of a transaction were answered (`operations`), how many transactions were begun (`begun`) and which node decides one (`decider`).
+//! - Pins stay at each member that is up after an event, and one that goes down or up has none (`PinsStay`); `pin`, `look` and `unpin` at a member
+//!   are those of `co_cluster`, and so is `dump`.
 //! - `hand` gives a member a verdict and is the step of the definitions for it, with all that is said of `step`.
 #![tactic(auto)]
 
@@ -27,6 +29,7 @@ mod disarming;
 mod events;
 mod handing;
 mod listing;
+mod pinning;
 mod reading;
 mod stepping;
 mod telling;

@@ -12,6 +12,7 @@ ghost use Rattle.co_world.specs.Counting.{MeetsLimit, MeetsPlainLimit};
 ghost use Rattle.co_world.specs.Standing.{RepresentsWorld, AreHeld};
 ghost use Rattle.co_world.specs.Answered.{AnswersEvent};
 ghost use Rattle.co_opening.specs.Rest.{OnlyOwnFilesChange};
+ghost use Rattle.co_world.specs.Pins.{PinsStay};
 
 use crate::clients::Ending;
 use crate::world::World;
@@ -55,6 +56,7 @@ impl<E: Engine + Drop> World<E> {
         ensures stands { (s : Federation) → RepresentsWorld E.takes E.stands_for self.old s → IsReady s → OnOk result (RepresentsWorld E.takes E.stands_for self.new (operate s t member (op.Read key.now)).state) }
         ensures held { (home : HomeView) → AreHeld home self.old → OnOk result (AreHeld home self.new) }
         ensures memory { IfErr result (λ fault. fault ≡ WorldFault.Memory) }
+        ensures pins { PinsStay E.pins self.old self.new }
     {
         self.operate(number, t, member, Op::Read(key.copy()?))
     }
@@ -74,6 +76,7 @@ impl<E: Engine + Drop> World<E> {
         ensures stands { (s : Federation) → RepresentsWorld E.takes E.stands_for self.old s → IsReady s → OnOk result (RepresentsWorld E.takes E.stands_for self.new (operate s t member (op.Write key.now value.now)).state) }
         ensures held { (home : HomeView) → AreHeld home self.old → OnOk result (AreHeld home self.new) }
         ensures memory { IfErr result (λ fault. fault ≡ WorldFault.Memory) }
+        ensures pins { PinsStay E.pins self.old self.new }
     {
         self.operate(number, t, member, Op::Write(key.copy()?, value.copy()?))
     }
@@ -86,6 +89,7 @@ impl<E: Engine + Drop> World<E> {
         ensures stands { (s : Federation) → RepresentsWorld E.takes E.stands_for self.old s → IsReady s → OnOk result (RepresentsWorld E.takes E.stands_for self.new (operate s t member (op.Erase key.now)).state) }
         ensures held { (home : HomeView) → AreHeld home self.old → OnOk result (AreHeld home self.new) }
         ensures memory { IfErr result (λ fault. fault ≡ WorldFault.Memory) }
+        ensures pins { PinsStay E.pins self.old self.new }
     {
         self.operate(number, t, member, Op::Erase(key.copy()?))
     }
@@ -98,6 +102,7 @@ impl<E: Engine + Drop> World<E> {
         ensures stands { (s : Federation) → RepresentsWorld E.takes E.stands_for self.old s → IsReady s → OnOk result (RepresentsWorld E.takes E.stands_for self.new (operate s t member (op.Scan range.now)).state) }
         ensures held { (home : HomeView) → AreHeld home self.old → OnOk result (AreHeld home self.new) }
         ensures memory { IfErr result (λ fault. fault ≡ WorldFault.Memory) }
+        ensures pins { PinsStay E.pins self.old self.new }
     {
         self.operate(number, t, member, Op::Scan(range.copy()?))
     }
@@ -116,6 +121,7 @@ impl<E: Engine + Drop> World<E> {
         ensures answered { (s : Federation) → RepresentsWorld E.takes E.stands_for self.old s → IsReady s →
             AnswersEvent E.takes E.stands_for number (λ z. deliver z message) s self.new (H.seen home.old) (H.seen home.new) result }
         ensures rest { OnlyOwnFilesChange (length self.old.cluster.members.items) (length self.old.cluster.coords.items) (H.seen home.old) (H.seen home.new) }
+        ensures pins { PinsStay E.pins self.old self.new }
     {
         match self.wire.get(&message) {
             Ok(()) => match receiver(&message) {
@@ -145,6 +151,7 @@ impl<E: Engine + Drop> World<E> {
         ensures answered { (s : Federation) → RepresentsWorld E.takes E.stands_for self.old s →
             AnswersEvent E.takes E.stands_for number (λ z. timer_at z t node) s self.new (H.seen home.old) (H.seen home.new) result }
         ensures rest { OnlyOwnFilesChange (length self.old.cluster.members.items) (length self.old.cluster.coords.items) (H.seen home.old) (H.seen home.new) }
+        ensures pins { PinsStay E.pins self.old self.new }
     {
         match node {
             Node::Member(member) => self.at_member(home, number, member, MemberCall::Timer(t)),
@@ -161,6 +168,7 @@ impl<E: Engine + Drop> World<E> {
         ensures answered { (s : Federation) → RepresentsWorld E.takes E.stands_for self.old s →
             AnswersEvent E.takes E.stands_for number (λ z. crash_at z node) s self.new (H.seen home.old) (H.seen home.new) result }
         ensures rest { OnlyOwnFilesChange (length self.old.cluster.members.items) (length self.old.cluster.coords.items) (H.seen home.old) (H.seen home.new) }
+        ensures pins { PinsStay E.pins self.old self.new }
     {
         match node {
             Node::Member(member) => self.at_member(home, number, member, MemberCall::Crash),
@@ -182,6 +190,7 @@ impl<E: Engine + Drop> World<E> {
         ensures answered { (s : Federation) → RepresentsWorld E.takes E.stands_for self.old s →
             AnswersEvent E.takes E.stands_for number (λ z. restart_at z node) s self.new (H.seen home.old) (H.seen home.new) result }
         ensures rest { OnlyOwnFilesChange (length self.old.cluster.members.items) (length self.old.cluster.coords.items) (H.seen home.old) (H.seen home.new) }
+        ensures pins { PinsStay E.pins self.old self.new }
     {
         match node {
             Node::Member(member) => {
@@ -212,6 +221,7 @@ impl<E: Engine + Drop> World<E> {
         ensures answered { (s : Federation) → RepresentsWorld E.takes E.stands_for self.old s →
             AnswersEvent E.takes E.stands_for number (λ z. arm_at z call leaves.now node) s self.new (H.seen home.old) (H.seen home.new) result }
         ensures rest { OnlyOwnFilesChange (length self.old.cluster.members.items) (length self.old.cluster.coords.items) (H.seen home.old) (H.seen home.new) }
+        ensures pins { PinsStay E.pins self.old self.new }
     {
         let leaves = copy_leaves(self.alloc, leaves)?;
         match node {
@@ -238,6 +248,7 @@ impl<E: Engine + Drop> World<E> {
         ensures answered { (s : Federation) → RepresentsWorld E.takes E.stands_for self.old s →
             AnswersEvent E.takes E.stands_for number (λ z. checkpoint_at z node) s self.new (H.seen home.old) (H.seen home.new) result }
         ensures rest { OnlyOwnFilesChange (length self.old.cluster.members.items) (length self.old.cluster.coords.items) (H.seen home.old) (H.seen home.new) }
+        ensures pins { PinsStay E.pins self.old self.new }
     {
         match node {
             Node::Member(member) => self.at_member(home, number, member, MemberCall::Checkpoint),
@@ -265,6 +276,7 @@ impl<E: Engine + Drop> World<E> {
         ensures answered { (s : Federation) → RepresentsWorld E.takes E.stands_for self.old s → IsReady s →
             AnswersEvent E.takes E.stands_for number (λ z. step_line z event.now) s self.new (H.seen home.old) (H.seen home.new) result }
         ensures rest { OnlyOwnFilesChange (length self.old.cluster.members.items) (length self.old.cluster.coords.items) (H.seen home.old) (H.seen home.new) }
+        ensures pins { PinsStay E.pins self.old self.new }
     {
         match event {
             Event::Begin { txn, coord } => self.begin(home, number, *txn, *coord),

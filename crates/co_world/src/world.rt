@@ -11,6 +11,7 @@ ghost use Rattle.co_cluster.specs.Served.{HasEndedAs};
 ghost use Rattle.co_cluster.specs.Telling.{IsTold, IsToldBy};
 ghost use Rattle.co_world.specs.Standing.{RepresentsWorld, AreHeld, AreServed};
 ghost use Rattle.co_opening.specs.Rest.{OnlyOwnFilesChange};
+ghost use Rattle.co_world.specs.Pins.{PinsStay};
 
 use crate::telling::items_of;
 use co_base::Mark;
@@ -88,6 +89,7 @@ impl<E: Engine + Drop> World<E> {
         ensures served { OnOk result (AreServed self.new (H.seen home.old) (H.seen home.new)) }
         ensures ended { IfErr result (λ fault. HasEndedAs fault (H.seen home.old) (H.seen home.new)) }
         ensures rest { OnlyOwnFilesChange (length self.old.cluster.members.items) (length self.old.cluster.coords.items) (H.seen home.old) (H.seen home.new) }
+        ensures pins { PinsStay E.pins self.old self.new }
     {
         self.cluster.member_does(home, member, call)
     }
@@ -112,6 +114,7 @@ impl<E: Engine + Drop> World<E> {
         ensures served { OnOk result (AreServed self.new (H.seen home.old) (H.seen home.new)) }
         ensures ended { IfErr result (λ fault. HasEndedAs fault (H.seen home.old) (H.seen home.new)) }
         ensures rest { OnlyOwnFilesChange (length self.old.cluster.members.items) (length self.old.cluster.coords.items) (H.seen home.old) (H.seen home.new) }
+        ensures pins { PinsStay E.pins self.old self.new }
     {
         self.cluster.coord_does(home, coord, call)
     }
@@ -120,6 +123,7 @@ impl<E: Engine + Drop> World<E> {
     fn send(&mut self, messages: &[Message]) -> Result<(), AllocError>
         ensures wire { OnOk result (self.new.wire ≡ send_all self.old.wire messages.now) }
         ensures rest { OnOk result (self.new ≡ record self.old { wire = self.new.wire }) }
+        ensures nodes { self.new.cluster ≡ self.old.cluster }
     {
         for message in messages {
             self.wire.send(*message)?;
@@ -139,6 +143,7 @@ impl<E: Engine + Drop> World<E> {
         ensures stands { (s : Federation) → RepresentsWorld E.takes E.stands_for self.old s → OnOk result (RepresentsWorld E.takes E.stands_for self.new (noted s marks.now messages.now)) }
         ensures held { (home : HomeView) → AreHeld home self.old → OnOk result (AreHeld home self.new) }
         ensures memory { IfErr result (λ fault. fault ≡ WorldFault.Memory) }
+        ensures nodes { self.new.cluster ≡ self.old.cluster }
     {
         self.send(messages)?;
         Ok(items_of(self.alloc, number, marks, messages, answer)?)

@@ -4,7 +4,7 @@ use Rattle.co_plain.specs.Step.{disarmed, up_coord, coord_step}
 use Rattle.co_cluster.specs.Calls.{coord_does}
 use Rattle.co_cluster.specs.Left.{coord_disarmed}
 use Rattle.co_cluster.proofs.Lefts.{either_left, coord_step_left, coord_step_overlong}
-use Rattle.co_world.proofs.Nodes.{held_left}
+use Rattle.co_world.proofs.Nodes.{held_left, pins_on}
 use Rattle.co_world.proofs.Steps.{coord_is_down, coord_is_up}
 use Rattle.co_world.proofs.Answering.{refused_alone, passed_answer, did_at_coord}
 use Rattle.co_base.specs.declared.node.Node.TheVariants as node
@@ -52,3 +52,6 @@ returns-clause-answered g c = λ s r.
     did_at_coord g.E.Engine.takes g.E.Engine.stands_for c.args.number (λ z. coord_step z c.args.coord (coord_does c.args.coord c.args.call)) s c.coord_does.new.self c.tells_of_coord.new.self old new c.tells_of_coord.result s k step c.in_ok-did.did (done.told s r)
     (coord_is_up s k (s.coord k).up step up) done.served (held_left g.E.Engine.takes g.E.Engine.stands_for c.coord_does.new.self (with_coord s k step.state) new stood done.served.kept) c.tells_of_coord.ensures.items
     (c.tells_of_coord.ensures.stands (with_coord s k step.state) stood) (c.tells_of_coord.ensures.held new done.served.kept) c.tells_of_coord.ensures.memory
+
+pub returns-clause-pins : goal.returns-clause-pins
+returns-clause-pins g c = pins_on g.E.Engine.pins c.args.self.now c.coord_does.new.self c.tells_of_coord.new.self c.coord_does.ensures.pins c.tells_of_coord.ensures.nodes

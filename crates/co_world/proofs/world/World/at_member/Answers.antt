@@ -4,7 +4,7 @@ use Rattle.co_plain.specs.Step.{disarmed, up_member, member_step}
 use Rattle.co_cluster.specs.Calls.{member_does}
 use Rattle.co_cluster.specs.Left.{member_disarmed}
 use Rattle.co_cluster.proofs.Lefts.{either_left, member_step_left, member_step_overlong}
-use Rattle.co_world.proofs.Nodes.{held_left}
+use Rattle.co_world.proofs.Nodes.{held_left, pins_on}
 use Rattle.co_world.proofs.Steps.{member_is_down, member_is_up}
 use Rattle.co_world.proofs.Answering.{refused_alone, passed_answer, did_at_member}
 use Rattle.co_base.specs.declared.node.Node.TheVariants as node
@@ -52,3 +52,6 @@ returns-clause-answered g c = λ s r.
     did_at_member g.E.Engine.takes g.E.Engine.stands_for c.args.number (λ z. member_step z c.args.member (member_does c.args.member c.args.call)) s c.member_does.new.self c.tells_of_member.new.self old new c.tells_of_member.result s k step c.in_ok-did.did (done.told s r)
     (member_is_up s k (s.member k).up step up) done.served (held_left g.E.Engine.takes g.E.Engine.stands_for c.member_does.new.self (with_member s k step.state) new stood done.served.kept) c.tells_of_member.ensures.items
     (c.tells_of_member.ensures.stands (with_member s k step.state) stood) (c.tells_of_member.ensures.held new done.served.kept) c.tells_of_member.ensures.memory
+
+pub returns-clause-pins : goal.returns-clause-pins
+returns-clause-pins g c = pins_on g.E.Engine.pins c.args.self.now c.member_does.new.self c.tells_of_member.new.self c.member_does.ensures.pins c.tells_of_member.ensures.nodes

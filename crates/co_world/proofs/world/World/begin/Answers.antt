@@ -9,7 +9,7 @@ use Rattle.co_plain.specs.Step.{is_used, begin_where, disarmed, step_line}
 use Rattle.co_session.specs.Clients.{is_used as is_used_in}
 use Rattle.co_world.proofs.Acting.{used_alike, begins, own_coord}
 use Rattle.co_world.proofs.Ends.{errs_as, passed_limit, passed_memory, no_limit}
-use Rattle.co_world.proofs.Nodes.{held_left}
+use Rattle.co_world.proofs.Nodes.{held_left, pins_on}
 use Rattle.co_world.proofs.LeftSteps.{begun_left, left_as}
 use Rattle.co_cluster.specs.Left.{coord_disarmed}
 -- ---- the number is used, or there are too many
@@ -136,3 +136,6 @@ returns-clause-answered g c = λ s r.
     did_at_coord g.E.Engine.takes g.E.Engine.stands_for c.args.number (λ z. step_line z (event.Begin c.args.t c.args.coord)) s c.coord_does.new.self c.tells_of_coord.new.self old new c.tells_of_coord.result plain c.args.coord step c.in_ok-did.did (done.told plain begun)
     (λ i. begin_where s c.args.t c.args.coord (sym unused i) (sym up i)) done.served (held_left g.E.Engine.takes g.E.Engine.stands_for c.coord_does.new.self (with_coord plain c.args.coord step.state) new stood done.served.kept)
     c.tells_of_coord.ensures.items (c.tells_of_coord.ensures.stands (with_coord plain c.args.coord step.state) stood) (c.tells_of_coord.ensures.held new done.served.kept) c.tells_of_coord.ensures.memory
+
+pub returns-clause-pins : goal.returns-clause-pins
+returns-clause-pins g c = pins_on g.E.Engine.pins c.args.self.now c.coord_does.new.self c.tells_of_coord.new.self c.coord_does.ensures.pins c.tells_of_coord.ensures.nodes

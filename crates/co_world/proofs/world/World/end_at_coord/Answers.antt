@@ -17,7 +17,7 @@ use Rattle.co_world.proofs.Acting.{begun_here}
 use Rattle.co_world.proofs.ClientSteps.{marked_by_coord, ends_at_coord}
 use Rattle.co_world.proofs.Ends.{passed_limit, passed_memory, no_limit}
 use Rattle.co_cluster.proofs.Lefts.{either_left}
-use Rattle.co_world.proofs.Nodes.{held_left}
+use Rattle.co_world.proofs.Nodes.{held_left, pins_on}
 use Rattle.co_world.proofs.LeftSteps.{coord_answers_left, coord_answers_overlong}
 use Rattle.co_cluster.specs.Left.{coord_disarmed, AreLeftWith}
 use Rattle.co_world.proofs.Answering.{refused_alone, wanting, passed_answer, did_at_coord}
@@ -122,3 +122,6 @@ returns-clause-answered g c = λ s r session here.
     did_at_coord g.E.Engine.takes g.E.Engine.stands_for c.args.number (λ z. coord_answers z c.args.t session k (z.coord k).up (coord_does k asked (z.coord k))) s c.coord_does.new.self c.tells_of_coord.new.self (g.H.Home.seen c.args.home.now) new c.tells_of_coord.result marked k step c.in_ok-did.did told
     (ap (λ (b : Bool). coord_answers s c.args.t session k b step) (sym up)) done.served (held_left g.E.Engine.takes g.E.Engine.stands_for c.mark_asked.new.self (with_coord marked k step.state) new now kept)
     c.tells_of_coord.ensures.items (c.tells_of_coord.ensures.stands (with_coord marked k step.state) now) (c.tells_of_coord.ensures.held new kept) c.tells_of_coord.ensures.memory
+
+pub returns-clause-pins : goal.returns-clause-pins
+returns-clause-pins g c = pins_on g.E.Engine.pins c.args.self.now c.coord_does.new.self c.tells_of_coord.new.self c.coord_does.ensures.pins (c.tells_of_coord.ensures.nodes ∙ c.mark_asked.ensures.nodes)

@@ -17,7 +17,7 @@ use Rattle.co_world.proofs.Acting.{begun_here, may_end, own_member}
 use Rattle.co_world.proofs.ClientSteps.{marked_by_member, ends_alone}
 use Rattle.co_world.proofs.Ends.{passed_limit, no_limit}
 use Rattle.co_cluster.proofs.Lefts.{either_left}
-use Rattle.co_world.proofs.Nodes.{held_left}
+use Rattle.co_world.proofs.Nodes.{held_left, pins_on}
 use Rattle.co_world.proofs.LeftSteps.{local_answers_left, local_answers_overlong}
 use Rattle.co_cluster.specs.Left.{member_disarmed, AreLeftWith}
 use Rattle.co_world.proofs.Answering.{refused_alone, passed_answer, did_at_member}
@@ -107,3 +107,6 @@ returns-clause-answered g c = λ s r session here.
     did_at_member g.E.Engine.takes g.E.Engine.stands_for c.args.number (λ z. local_answers z c.args.t session k (z.member k).up (member_does k asked (z.member k))) s c.member_does.new.self c.tells_of_member.new.self (g.H.Home.seen c.args.home.now) new c.tells_of_member.result marked k step c.in_ok-did.did told
     (ap (λ (b : Bool). local_answers s c.args.t session k b step) (sym up)) done.served (held_left g.E.Engine.takes g.E.Engine.stands_for c.mark_asked.new.self (with_member marked k step.state) new now kept)
     c.tells_of_member.ensures.items (c.tells_of_member.ensures.stands (with_member marked k step.state) now) (c.tells_of_member.ensures.held new kept) c.tells_of_member.ensures.memory
+
+pub returns-clause-pins : goal.returns-clause-pins
+returns-clause-pins g c = pins_on g.E.Engine.pins c.args.self.now c.member_does.new.self c.tells_of_member.new.self c.member_does.ensures.pins (c.tells_of_member.ensures.nodes ∙ c.mark_asked.ensures.nodes)

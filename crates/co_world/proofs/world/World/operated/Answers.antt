@@ -19,6 +19,7 @@ use Rattle.co_world.proofs.ClientSteps.{operate_down, operate_up}
 use Rattle.co_world.proofs.Ends.{passed_memory, all_ok}
 use Rattle.co_cluster.proofs.Ready.{replied_few}
 use Rattle.co_world.proofs.Told.{told_as, answered_stands}
+use Rattle.co_world.proofs.Nodes.{pins_on}
 use Rattle.co_world.proofs.world.World.operated.Goals as goal
 
 pub returns-then-not-member_up-clause-items : goal.returns-then-not-member_up-clause-items
@@ -113,3 +114,9 @@ returns-clause-held g c = λ home held.
 pub returns-clause-memory : goal.returns-clause-memory
 returns-clause-memory g c =
     c.answers-2.ensures.memory
+
+pub returns-in_err-enter-clause-pins : goal.returns-in_err-enter-clause-pins
+returns-in_err-enter-clause-pins g c = pins_on g.E.Engine.pins c.args.self.now c.op_at.new.self c.enter.new.self c.op_at.ensures.pins c.enter.ensures.nodes
+
+pub returns-clause-pins : goal.returns-clause-pins
+returns-clause-pins g c = pins_on g.E.Engine.pins c.args.self.now c.op_at.new.self c.enter.new.self c.op_at.ensures.pins c.enter.ensures.nodes

@@ -8,7 +8,7 @@ use Rattle.co_schedule.specs.View.{IsNode}
 use Rattle.co_world.proofs.Ends.{passed_limit, no_limit}
 use Rattle.co_cluster.proofs.Ready.{restarts_member, restarts_coord}
 use Rattle.co_cluster.proofs.Lefts.{either_left}
-use Rattle.co_world.proofs.Nodes.{held_left}
+use Rattle.co_world.proofs.Nodes.{held_left, pins_on}
 use Rattle.co_world.proofs.LeftSteps.{at_coord_left, at_member_left, at_member_overlong, at_coord_overlong}
 use Rattle.co_cluster.specs.Left.{coord_disarmed, member_disarmed}
 use Rattle.co_world.proofs.Answering.{passed_answer, did_at_member, did_at_coord}
@@ -111,3 +111,9 @@ returns-in_ok-did-in-Coord-clause-answered g c = λ s r.
     (did_at_coord g.E.Engine.takes g.E.Engine.stands_for c.args.number (λ z. restart_at z (node.Coord c.in-Coord.coord)) s c.coord_does.new.self c.tells_of_coord.new.self old new c.tells_of_coord.result s k step c.in_ok-did-in-Coord.did (done.told s r) refl done.served
     (held_left g.E.Engine.takes g.E.Engine.stands_for c.coord_does.new.self (with_coord s k step.state) new stood done.served.kept) c.tells_of_coord.ensures.items (c.tells_of_coord.ensures.stands (with_coord s k step.state) stood)
     (c.tells_of_coord.ensures.held new done.served.kept) c.tells_of_coord.ensures.memory)
+
+pub returns-in_ok-did-in-Member-clause-pins : goal.returns-in_ok-did-in-Member-clause-pins
+returns-in_ok-did-in-Member-clause-pins g c = pins_on g.E.Engine.pins c.args.self.now c.member_does.new.self c.tells_of_member.new.self c.member_does.ensures.pins c.tells_of_member.ensures.nodes
+
+pub returns-in_ok-did-in-Coord-clause-pins : goal.returns-in_ok-did-in-Coord-clause-pins
+returns-in_ok-did-in-Coord-clause-pins g c = pins_on g.E.Engine.pins c.args.self.now c.coord_does.new.self c.tells_of_coord.new.self c.coord_does.ensures.pins c.tells_of_coord.ensures.nodes

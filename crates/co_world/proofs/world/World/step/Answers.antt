@@ -1,4 +1,4 @@
-use Rattle.std.proofs.Common.{length, subst}
+use Rattle.std.proofs.Common.{refl, length, subst}
 use Rattle.co_message.specs.declared.event.Event.{Event}
 use Rattle.co_schedule.specs.View.{IsEventFor}
 use Rattle.co_world.proofs.Acting.{own_member}
@@ -7,6 +7,7 @@ use Rattle.co_opening.proofs.Rests.{unchanged}
 use Rattle.co_cluster.proofs.Ready.{votes_again}
 use Rattle.co_world.proofs.Ends.{no_limit, of_memory}
 use Rattle.co_world.proofs.Stepped.{limit_of, answered_at, alone_at}
+use Rattle.co_world.proofs.Nodes.{pins_on}
 use Rattle.co_world.proofs.world.World.step.Goals as goal
 
 pub begin-requires-clause-in_head : goal.begin-requires-clause-in_head
@@ -24,6 +25,7 @@ returns-in-Begin g c =
       limit = λ s r. through count (limits_alike g.E.Engine.takes g.E.Engine.stands_for c.args.self.now s r c.args.event.now);
       answered = λ s r ready. answered_at g.E.Engine.takes g.E.Engine.stands_for c.args.number c.in-Begin.is s c.begin.new.self (g.H.Home.seen c.args.home.now) (g.H.Home.seen c.begin.new.home) c.begin.result (c.begin.ensures.answered s r);
       rest = c.begin.ensures.rest;
+      pins = c.begin.ensures.pins;
     }
 
 pub begin_local-requires : goal.begin_local-requires
@@ -40,6 +42,7 @@ returns-in-Local g c =
           alone_at g.E.Engine.takes g.E.Engine.stands_for c.args.number c.in-Local.is s c.args.self.now c.begin_local.new.self (g.H.Home.seen c.args.home.now) c.begin_local.result r c.requires.held (c.begin_local.ensures.items s r) (c.begin_local.ensures.stands s r)
           (c.begin_local.ensures.held (g.H.Home.seen c.args.home.now) c.requires.held) c.begin_local.ensures.ended;
       rest = unchanged _ _ _;
+      pins = pins_on g.E.Engine.pins c.args.self.now c.args.self.now c.begin_local.new.self (λ m up. refl) c.begin_local.ensures.nodes;
     }
 
 pub reads-requires-clause-in_head : goal.reads-requires-clause-in_head
@@ -59,6 +62,7 @@ returns-in-Read g c =
           alone_at g.E.Engine.takes g.E.Engine.stands_for c.args.number c.in-Read.is s c.args.self.now c.reads.new.self (g.H.Home.seen c.args.home.now) c.reads.result r c.requires.held (c.reads.ensures.items s r ready) (c.reads.ensures.stands s r ready)
           (c.reads.ensures.held (g.H.Home.seen c.args.home.now) c.requires.held) (of_memory c.reads.result c.reads.ensures.memory);
       rest = unchanged _ _ _;
+      pins = c.reads.ensures.pins;
     }
 
 pub writes-requires-clause-in_head : goal.writes-requires-clause-in_head
@@ -78,6 +82,7 @@ returns-in-Write g c =
           alone_at g.E.Engine.takes g.E.Engine.stands_for c.args.number c.in-Write.is s c.args.self.now c.writes.new.self (g.H.Home.seen c.args.home.now) c.writes.result r c.requires.held (c.writes.ensures.items s r ready) (c.writes.ensures.stands s r ready)
           (c.writes.ensures.held (g.H.Home.seen c.args.home.now) c.requires.held) (of_memory c.writes.result c.writes.ensures.memory);
       rest = unchanged _ _ _;
+      pins = c.writes.ensures.pins;
     }
 
 pub erases-requires-clause-in_head : goal.erases-requires-clause-in_head
@@ -97,6 +102,7 @@ returns-in-Erase g c =
           alone_at g.E.Engine.takes g.E.Engine.stands_for c.args.number c.in-Erase.is s c.args.self.now c.erases.new.self (g.H.Home.seen c.args.home.now) c.erases.result r c.requires.held (c.erases.ensures.items s r ready) (c.erases.ensures.stands s r ready)
           (c.erases.ensures.held (g.H.Home.seen c.args.home.now) c.requires.held) (of_memory c.erases.result c.erases.ensures.memory);
       rest = unchanged _ _ _;
+      pins = c.erases.ensures.pins;
     }
 
 pub scans-requires-clause-in_head : goal.scans-requires-clause-in_head
@@ -116,6 +122,7 @@ returns-in-Scan g c =
           alone_at g.E.Engine.takes g.E.Engine.stands_for c.args.number c.in-Scan.is s c.args.self.now c.scans.new.self (g.H.Home.seen c.args.home.now) c.scans.result r c.requires.held (c.scans.ensures.items s r ready) (c.scans.ensures.stands s r ready)
           (c.scans.ensures.held (g.H.Home.seen c.args.home.now) c.requires.held) (of_memory c.scans.result c.scans.ensures.memory);
       rest = unchanged _ _ _;
+      pins = c.scans.ensures.pins;
     }
 
 pub end-requires-clause-stands : goal.end-requires-clause-stands
@@ -129,6 +136,7 @@ returns-in-Commit g c =
       limit = λ s r. through count (limits_alike g.E.Engine.takes g.E.Engine.stands_for c.args.self.now s r c.args.event.now);
       answered = λ s r ready. answered_at g.E.Engine.takes g.E.Engine.stands_for c.args.number c.in-Commit.is s c.end.new.self (g.H.Home.seen c.args.home.now) (g.H.Home.seen c.end.new.home) c.end.result (c.end.ensures.answered s r ready);
       rest = c.end.ensures.rest;
+      pins = c.end.ensures.pins;
     }
 
 pub end-requires-in-Abort-clause-stands : goal.end-requires-in-Abort-clause-stands
@@ -142,6 +150,7 @@ returns-in-Abort g c =
       limit = λ s r. through count (limits_alike g.E.Engine.takes g.E.Engine.stands_for c.args.self.now s r c.args.event.now);
       answered = λ s r ready. answered_at g.E.Engine.takes g.E.Engine.stands_for c.args.number c.in-Abort.is s c.end-in-Abort.new.self (g.H.Home.seen c.args.home.now) (g.H.Home.seen c.end-in-Abort.new.home) c.end-in-Abort.result (c.end-in-Abort.ensures.answered s r ready);
       rest = c.end-in-Abort.ensures.rest;
+      pins = c.end-in-Abort.ensures.pins;
     }
 
 pub deliver-requires-clause-in_head : goal.deliver-requires-clause-in_head
@@ -159,6 +168,7 @@ returns-in-Deliver g c =
       limit = λ s r. through count (limits_alike g.E.Engine.takes g.E.Engine.stands_for c.args.self.now s r c.args.event.now);
       answered = λ s r ready. answered_at g.E.Engine.takes g.E.Engine.stands_for c.args.number c.in-Deliver.is s c.deliver.new.self (g.H.Home.seen c.args.home.now) (g.H.Home.seen c.deliver.new.home) c.deliver.result (c.deliver.ensures.answered s r ready);
       rest = c.deliver.ensures.rest;
+      pins = c.deliver.ensures.pins;
     }
 
 pub at_member-requires-clause-in_head : goal.at_member-requires-clause-in_head
@@ -181,6 +191,7 @@ returns-in-Vote g c =
       limit = λ s r. through count (limits_alike g.E.Engine.takes g.E.Engine.stands_for c.args.self.now s r c.args.event.now);
       answered = λ s r ready. answered_at g.E.Engine.takes g.E.Engine.stands_for c.args.number c.in-Vote.is s c.at_member.new.self (g.H.Home.seen c.args.home.now) (g.H.Home.seen c.at_member.new.home) c.at_member.result (c.at_member.ensures.answered s r);
       rest = c.at_member.ensures.rest;
+      pins = c.at_member.ensures.pins;
     }
 
 pub at_member-requires-in-Ask-clause-in_head : goal.at_member-requires-in-Ask-clause-in_head
@@ -198,6 +209,7 @@ returns-in-Ask g c =
       limit = λ s r. through count (limits_alike g.E.Engine.takes g.E.Engine.stands_for c.args.self.now s r c.args.event.now);
       answered = λ s r ready. answered_at g.E.Engine.takes g.E.Engine.stands_for c.args.number c.in-Ask.is s c.at_member-in-Ask.new.self (g.H.Home.seen c.args.home.now) (g.H.Home.seen c.at_member-in-Ask.new.home) c.at_member-in-Ask.result (c.at_member-in-Ask.ensures.answered s r);
       rest = c.at_member-in-Ask.ensures.rest;
+      pins = c.at_member-in-Ask.ensures.pins;
     }
 
 pub at_coord-requires-clause-in_head : goal.at_coord-requires-clause-in_head
@@ -215,6 +227,7 @@ returns-in-Resend g c =
       limit = λ s r. through count (limits_alike g.E.Engine.takes g.E.Engine.stands_for c.args.self.now s r c.args.event.now);
       answered = λ s r ready. answered_at g.E.Engine.takes g.E.Engine.stands_for c.args.number c.in-Resend.is s c.at_coord.new.self (g.H.Home.seen c.args.home.now) (g.H.Home.seen c.at_coord.new.home) c.at_coord.result (c.at_coord.ensures.answered s r);
       rest = c.at_coord.ensures.rest;
+      pins = c.at_coord.ensures.pins;
     }
 
 pub timer-requires-clause-in_head : goal.timer-requires-clause-in_head
@@ -232,6 +245,7 @@ returns-in-Timer g c =
       limit = λ s r. through count (limits_alike g.E.Engine.takes g.E.Engine.stands_for c.args.self.now s r c.args.event.now);
       answered = λ s r ready. answered_at g.E.Engine.takes g.E.Engine.stands_for c.args.number c.in-Timer.is s c.timer.new.self (g.H.Home.seen c.args.home.now) (g.H.Home.seen c.timer.new.home) c.timer.result (c.timer.ensures.answered s r);
       rest = c.timer.ensures.rest;
+      pins = c.timer.ensures.pins;
     }
 
 pub crash-requires-clause-in_head : goal.crash-requires-clause-in_head
@@ -249,6 +263,7 @@ returns-in-Crash g c =
       limit = λ s r. through count (limits_alike g.E.Engine.takes g.E.Engine.stands_for c.args.self.now s r c.args.event.now);
       answered = λ s r ready. answered_at g.E.Engine.takes g.E.Engine.stands_for c.args.number c.in-Crash.is s c.crash.new.self (g.H.Home.seen c.args.home.now) (g.H.Home.seen c.crash.new.home) c.crash.result (c.crash.ensures.answered s r);
       rest = c.crash.ensures.rest;
+      pins = c.crash.ensures.pins;
     }
 
 pub restart-requires-clause-in_head : goal.restart-requires-clause-in_head
@@ -266,6 +281,7 @@ returns-in-Restart g c =
       limit = λ s r. through count (limits_alike g.E.Engine.takes g.E.Engine.stands_for c.args.self.now s r c.args.event.now);
       answered = λ s r ready. answered_at g.E.Engine.takes g.E.Engine.stands_for c.args.number c.in-Restart.is s c.restart.new.self (g.H.Home.seen c.args.home.now) (g.H.Home.seen c.restart.new.home) c.restart.result (c.restart.ensures.answered s r);
       rest = c.restart.ensures.rest;
+      pins = c.restart.ensures.pins;
     }
 
 pub checkpoint-requires-clause-in_head : goal.checkpoint-requires-clause-in_head
@@ -283,6 +299,7 @@ returns-in-Checkpoint g c =
       limit = λ s r. through count (limits_alike g.E.Engine.takes g.E.Engine.stands_for c.args.self.now s r c.args.event.now);
       answered = λ s r ready. answered_at g.E.Engine.takes g.E.Engine.stands_for c.args.number c.in-Checkpoint.is s c.checkpoint.new.self (g.H.Home.seen c.args.home.now) (g.H.Home.seen c.checkpoint.new.home) c.checkpoint.result (c.checkpoint.ensures.answered s r);
       rest = c.checkpoint.ensures.rest;
+      pins = c.checkpoint.ensures.pins;
     }
 
 pub arm-requires-clause-in_head : goal.arm-requires-clause-in_head
@@ -304,4 +321,5 @@ returns-in-Arm g c =
       limit = λ s r. through count (limits_alike g.E.Engine.takes g.E.Engine.stands_for c.args.self.now s r c.args.event.now);
       answered = λ s r ready. answered_at g.E.Engine.takes g.E.Engine.stands_for c.args.number c.in-Arm.is s c.arm.new.self (g.H.Home.seen c.args.home.now) (g.H.Home.seen c.arm.new.home) c.arm.result (c.arm.ensures.answered s r);
       rest = c.arm.ensures.rest;
+      pins = c.arm.ensures.pins;
     }
