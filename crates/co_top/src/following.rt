@@ -69,9 +69,8 @@ fn follow_event<E: Engine + Drop>(
 ) -> Result<(), Status>
     requires event { IsEventFor (length world.old.cluster.members.items) (length world.old.cluster.coords.items) event }
     requires held { AreHeld (calm_seen home.old.memory) world.old }
-    requires stands { (s : Federation) × RepresentsWorld E.takes E.stands_for world.old s × IsReady s }
+    requires stands { (s : Federation) × RepresentsWorld E.takes E.stands_for world.old s × IsReady s × IsOwnIf (length (step_line s event).state.kinds) ask.now seen.old }
     requires ask { IsAskIf ask.now }
-    requires own { IsOwnIf (length world.old.cluster.members.items) ask.now seen.old }
     ensures done { (s : Federation) → RepresentsWorld E.takes E.stands_for world.old s → IsReady s →
         IsToldOf E.takes E.stands_for s number event None None (calm_seen home.new.memory) world.new result }
     ensures seen { (s : Federation) → RepresentsWorld E.takes E.stands_for world.old s → IsReady s → OnOk result (SeesNextIf number (step_line s event).state ask.now seen.old seen.new) }

@@ -1,5 +1,8 @@
-use Rattle.std.proofs.Common.{◌≡◌, ◌∙◌, ℕ, [], None, Some, Result, Ok, Err, IfErr, refl, sym, ap, subst, length}
+use Rattle.std.proofs.Common.{◌≡◌, ◌∙◌, ℕ, [], ◌∷◌, ◌++◌, None, Some, Result, Ok, Err, IfErr, refl, sym, ap, subst, length}
+use Rattle.co_durable.proofs.Pairs.{all_append}
+use Rattle.co_plain.specs.Federation.{Federation}
 use Rattle.co_plain.specs.Runs.{run, lines}
+use Rattle.co_replay.specs.Schedule.{HasLine}
 use Rattle.co_schedule.specs.Lines.{ahead}
 use Rattle.co_trial.specs.Calm.{calm_seen}
 use Rattle.co_top.specs.Following.{IsFollowed, IsOfSchedule}
@@ -11,7 +14,7 @@ use Rattle.co_top.specs.declared.status.Status.{Status}
 use Rattle.co_top.specs.declared.status.Status.TheVariants as status
 use Rattle.co_top.proofs.Followed.{read_in_schedule, event_in_schedule, event_not_read}
 use Rattle.co_top.proofs.Follows.{follows_on, followed_out}
-use Rattle.co_top.proofs.Plays.{reads_over, read_behind, told_over, err_is}
+use Rattle.co_top.proofs.Plays.{reads_over, read_behind, told_over, err_is, run_one}
 use Rattle.co_top.proofs.Sights.{own_if}
 use Rattle.co_top.proofs.following.follow_lines.Goals as goal
 
@@ -47,17 +50,18 @@ returns-in_err-event-clause-own g c =
 pub follow_event-requires-clause-stands : goal.follow_event-requires-clause-stands
 follow_event-requires-clause-stands g c =
     let w = c.requires.stands in
-    let p = (c.loop-number.invariant.playing w.0 w.1 w.2).0 in
-    (run (lines p.done.events) w.0, p.stands.stands, (w.2 p.done.events p.done.valid).ready)
-
-pub follow_event-requires-clause-own : goal.follow_event-requires-clause-own
-follow_event-requires-clause-own g c =
-    let w = c.requires.stands in
     let kept = c.loop-number.invariant.playing w.0 w.1 w.2 in
     let p = kept.0 in
-    subst (λ n. IsOwnIf n c.args.ask.now c.loop-number.seen)
-    (sym (p.stands.stands.cluster.kinds ∙ ap length (w.2 p.done.events p.done.valid).kinds))
-    (own_if (length c.args.head.now.kinds) w.0 p.done.events c.args.ask.now c.loop-number.seen kept.1)
+    let e = c.in-Some.event in
+    let z = run (lines p.done.events) w.0 in
+    let line = rw c.in-Some.is at c.in_ok-event.ensures.valid in
+    let valid = all_append (HasLine c.args.head.now) p.done.events (e ∷ []) p.done.valid (line, tt) in
+    let kinds = subst (λ (s : Federation). s.kinds ≡ c.args.head.now.kinds) (run_one p.done.events e w.0) (w.2 (p.done.events ++ e ∷ []) valid).kinds in (
+      z,
+      p.stands.stands,
+      (w.2 p.done.events p.done.valid).ready,
+      subst (λ n. IsOwnIf n c.args.ask.now c.loop-number.seen) (sym (ap length kinds)) (own_if (length c.args.head.now.kinds) w.0 p.done.events c.args.ask.now c.loop-number.seen kept.1),
+    )
 
 pub returns-in_err-follow_event-in-Some-clause-over : goal.returns-in_err-follow_event-in-Some-clause-over
 returns-in_err-follow_event-in-Some-clause-over g c = λ s0 r ready.
