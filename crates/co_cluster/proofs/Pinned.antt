@@ -57,8 +57,8 @@ module _ {E : Type 0} (pins : E → Table ℕ) (w after : Cluster E) (p : ℕ) (
           let same : p ≡ i = eqb→eq p i (subst T (sym e) tt) in
           subst (λ j. is_up_there (slice_get (set w.members.items p n) j) ≡ true → pins_there pins (slice_get (set w.members.items p n) j) ≡ pins_there pins (slice_get w.members.items j)) same
           (λ up.
-            let now = set_here w.members.items p m n here in
-            ap (pins_there pins) now ∙ stay (sym (ap is_up_there now) ∙ up) ∙ ap (pins_there pins) (sym here))
+          let now = set_here w.members.items p m n here in
+          ap (pins_there pins) now ∙ stay (sym (ap is_up_there now) ∙ up) ∙ ap (pins_there pins) (sym here))
       by i false e = λ up.
           let other : p ≢ i = λ same. let z : (p == i) ≡ true = eq-eqb p i same in absurd (let y : false ≡ true = sym e ∙ z in cc) in
           ap (pins_there pins) (set_other w.members.items p i n other)
