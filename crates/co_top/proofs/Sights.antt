@@ -105,12 +105,12 @@ module _ (s0 : Federation) (es : List Event) (e : Event) where
           more h.0,
           kind_stays h.0 ∙ h.1,
           (
-            λ later from to.
-            elim (or_last later (suc (length es)) (omega (arith, to, count_more es e))) as (λ c. is_up_at (state_behind s0 (es ++ e ∷ []) later) ask.member ≡ true) [
-              inl few ↦ up_stays later few ∙ h.2 later from few
-            | inr last ↦ up_last later (omega (arith, last)) ∙ up
-            ]
-          ),
+              λ later from to.
+              elim (or_last later (suc (length es)) (omega (arith, to, count_more es e))) as (λ c. is_up_at (state_behind s0 (es ++ e ∷ []) later) ask.member ≡ true) [
+                | inl few ↦ up_stays later few ∙ h.2 later from few
+                | inr last ↦ up_last later (omega (arith, last)) ∙ up
+              ]
+              ),
           h.3 ∙ ap (λ s. rows_asked s ask) (sym (behind_more ask.line h.0.line)),
         )
         by false down = subst (Sees members s0 (es ++ e ∷ []) ask) (sym (n ∙ ap (λ b. if b then looked.Rows rows else looked.Lost) down)) (

@@ -131,7 +131,9 @@ pub(crate) fn reached<E: Engine + Drop, S: Source>(
     let mut home = CalmHome::new(alloc);
     let (mut world, _) = attach::<E, CalmHome>(alloc, &mut home, &head, false)?;
     let mut seen = seen_of_head(alloc, &world, head.kinds.len() as u8, ask)?;
-    match follow_lines(alloc, &mut lines, source, &head, &mut world, &mut home, ask, &mut seen) {
+    match follow_lines(
+        alloc, &mut lines, source, &head, &mut world, &mut home, ask, &mut seen,
+    ) {
         Ok(_) => Ok((world, seen)),
         Err(status) => {
             drop(world);

@@ -24,13 +24,7 @@ use co_transcript::append_reply;
 use std::alloc::{AllocError, Global};
 
 /// What a reader asks for, out of the words of a command.
-fn ask_of(
-    alloc: Global,
-    member: u8,
-    line: u32,
-    low: &str,
-    high: &str,
-) -> Result<Ask, AllocError>
+fn ask_of(alloc: Global, member: u8, line: u32, low: &str, high: &str) -> Result<Ask, AllocError>
     requires texts { IsText most_key_bytes low.now × IsText most_key_bytes high.now }
     requires order { is_gt (key_cmp low.now high.now) ≡ false }
     ensures { IfOk result (λ ask. ask ≡ ask_for member line low.now high.now) }

@@ -40,7 +40,11 @@ pub enum Looked {
 }
 
 /// The installed records that the reader asks for of a multiversion member which is up.
-fn rows_asked<E: Engine + Drop>(alloc: Global, world: &World<E>, ask: &Ask) -> Result<Rows, AllocError>
+fn rows_asked<E: Engine + Drop>(
+    alloc: Global,
+    world: &World<E>,
+    ask: &Ask,
+) -> Result<Rows, AllocError>
     requires in_head { (1 ≤ ask.now.member) × (ask.now.member ≤ length world.now.cluster.members.items) }
     requires up { (s : Federation) × RepresentsWorld E.takes E.stands_for world.now s × (is_up_at s ask.now.member ≡ true) }
     ensures { (s : Federation) → RepresentsWorld E.takes E.stands_for world.now s → kind_at s ask.now.member ≡ Mv → IfOk result (λ rows. rows ≡ rows_asked s ask.now) }
@@ -50,7 +54,11 @@ fn rows_asked<E: Engine + Drop>(alloc: Global, world: &World<E>, ask: &Ask) -> R
 }
 
 /// What a reader sees that comes to a member of the federation now.
-fn first_sight<E: Engine + Drop>(alloc: Global, world: &World<E>, ask: &Ask) -> Result<Looked, AllocError>
+fn first_sight<E: Engine + Drop>(
+    alloc: Global,
+    world: &World<E>,
+    ask: &Ask,
+) -> Result<Looked, AllocError>
     requires in_head { (1 ≤ ask.now.member) × (ask.now.member ≤ length world.now.cluster.members.items) }
     requires stands { (s : Federation) × RepresentsWorld E.takes E.stands_for world.now s }
     ensures { (s : Federation) → RepresentsWorld E.takes E.stands_for world.now s → IfOk result (SeesFirst s ask.now) }
@@ -67,7 +75,12 @@ fn first_sight<E: Engine + Drop>(alloc: Global, world: &World<E>, ask: &Ask) -> 
 }
 
 /// What a reader sees behind a line who has not come before it.
-fn sight_at<E: Engine + Drop>(alloc: Global, world: &World<E>, line: u32, ask: &Ask) -> Result<Looked, AllocError>
+fn sight_at<E: Engine + Drop>(
+    alloc: Global,
+    world: &World<E>,
+    line: u32,
+    ask: &Ask,
+) -> Result<Looked, AllocError>
     requires in_head { (1 ≤ ask.now.member) × (ask.now.member ≤ length world.now.cluster.members.items) }
     requires stands { (s : Federation) × RepresentsWorld E.takes E.stands_for world.now s }
     ensures { (s : Federation) → RepresentsWorld E.takes E.stands_for world.now s → IfOk result (SeesAt line s ask.now) }
@@ -80,7 +93,12 @@ fn sight_at<E: Engine + Drop>(alloc: Global, world: &World<E>, line: u32, ask: &
 }
 
 /// What a reader sees behind the head of a federation of so many members.
-fn sight_of_head<E: Engine + Drop>(alloc: Global, world: &World<E>, members: u8, ask: &Ask) -> Result<Looked, AllocError>
+fn sight_of_head<E: Engine + Drop>(
+    alloc: Global,
+    world: &World<E>,
+    members: u8,
+    ask: &Ask,
+) -> Result<Looked, AllocError>
     requires member { 1 ≤ ask.now.member }
     requires members { members ≡ length world.now.cluster.members.items }
     requires stands { (s : Federation) × RepresentsWorld E.takes E.stands_for world.now s }

@@ -186,12 +186,8 @@ fn alone<'a>(word: Word) -> Command<'a>
     match word {
         Word::Check => Command::Check,
         Word::Waits => Command::Waits,
-        Word::Run
-        | Word::Records
-        | Word::Resolve
-        | Word::Migrate
-        | Word::Trial
-        | Word::Look => Command::Unknown,
+        Word::Run | Word::Records | Word::Resolve | Word::Migrate | Word::Trial | Word::Look =>
+            Command::Unknown,
     }
 }
 
@@ -202,12 +198,8 @@ fn with_two<'a>(word: Word, first: &'a String, second: &'a String) -> Command<'a
     match word {
         Word::Trial => trial_of(first, second),
         Word::Run => resumed(first, second),
-        Word::Records
-        | Word::Resolve
-        | Word::Migrate
-        | Word::Check
-        | Word::Waits
-        | Word::Look => Command::Unknown,
+        Word::Records | Word::Resolve | Word::Migrate | Word::Check | Word::Waits | Word::Look =>
+            Command::Unknown,
     }
 }
 

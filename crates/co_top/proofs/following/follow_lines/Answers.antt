@@ -21,15 +21,15 @@ use Rattle.co_top.proofs.following.follow_lines.Goals as goal
 pub loop-number-init : goal.loop-number-init
 loop-number-init g c = record {
   playing = λ s0 r ready. (
-        record {
-          done = record { events = []; valid = tt; left = λ t e. (t, AtStart t); whole = λ h e. absurd (let z : None ≡ Some h = e in cc) };
-          stands = record { stands = r; held = c.requires.held };
-          counted = refl;
-          read = c.requires.read;
-          is_left = λ t e. e;
-        },
-        c.requires.seen s0 r,
-      );
+    record {
+      done = record { events = []; valid = tt; left = λ t e. (t, AtStart t); whole = λ h e. absurd (let z : None ≡ Some h = e in cc) };
+      stands = record { stands = r; held = c.requires.held };
+      counted = refl;
+      read = c.requires.read;
+      is_left = λ t e. e;
+    },
+    c.requires.seen s0 r,
+  );
   quiet = refl;
 }
 

@@ -30,10 +30,10 @@ returns-in-Some-Some c =
     let same : asked ≡ c.in-Some-Some.member = ap (digits_value 10) digits ∙ value_of-decimal c.in-Some-Some.member (omega (arith, member.0.1)) in
     let so_many : many ≡ c.in-Some-Some.line = ap (digits_value 10) (sym c.as_bytes-4.ensures.value ∙ line.1) ∙ value_of-decimal c.in-Some-Some.line (omega (arith, line.0.1, c.from.ensures)) in (
       ap (λ (all : Bool). if all then AsksLook (ask_for asked many low high) else AsksNothing) (and_true _ _ bounds (and_true _ _ (sym named) (sym numbered)))
-      ∙ ap (λ (n : ℕ). AsksLook (ask_for n many low high)) same
-      ∙ ap (λ (n : ℕ). AsksLook (ask_for c.in-Some-Some.member n low high)) so_many
-      ∙ ap (λ (l : List ℕ). AsksLook (ask_for c.in-Some-Some.member c.in-Some-Some.line l high)) (sym c.as_str.ensures.value)
-      ∙ ap (λ (h : List ℕ). AsksLook (ask_for c.in-Some-Some.member c.in-Some-Some.line c.as_str.result.now h)) (sym c.as_str-in-Some-Some.ensures.value),
+          ∙ ap (λ (n : ℕ). AsksLook (ask_for n many low high)) same
+          ∙ ap (λ (n : ℕ). AsksLook (ask_for c.in-Some-Some.member n low high)) so_many
+          ∙ ap (λ (l : List ℕ). AsksLook (ask_for c.in-Some-Some.member c.in-Some-Some.line l high)) (sym c.as_str.ensures.value)
+          ∙ ap (λ (h : List ℕ). AsksLook (ask_for c.in-Some-Some.member c.in-Some-Some.line c.as_str.result.now h)) (sym c.as_str-in-Some-Some.ensures.value),
       member.0.0,
       line.0.0,
       subst (IsText most_key_bytes) (sym c.as_str.ensures.value) (IsText-is_text most_key_bytes low one.0),
