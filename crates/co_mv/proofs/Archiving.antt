@@ -21,9 +21,9 @@ use Rattle.co_mv.specs.Chains.{chain_of, chains_from, rewritten_all}
 use Rattle.co_stamps.specs.Stamped.{IsStamp}
 use Rattle.co_mv.specs.Kept.{needed, stamp_of, or_now, entered, pinned, grown, IsHeld, IsNeeded, Keeps, wrote_at}
 use Rattle.co_mv.specs.Recents.{Recents, keys_at, has_key, keys_in}
-use Rattle.co_mv.specs.Versions.{later, last_change, base_versions, closed_by, closed, versions_of, written_over, sees, is_kept}
-use Rattle.co_mv.proofs.Chaining.{chain-insert, chain-rewritten_all, after_change, fresh, filter-twice, each_one}
-use Rattle.co_mv.proofs.Needing.{tied, some_same, any-needed, kept_fewer, Each, each_link, filter-alike, closed-closed, each_closed, grown_alike, never_kept, closed_kept, sees_open}
+use Rattle.co_mv.specs.Versions.{with_write, with_closed, later, last_change, base_versions, closed_by, closed, versions_of, written_over, sees, is_kept}
+use Rattle.co_mv.proofs.Chaining.{chain-insert, chain-rewritten_all, after_change, fresh, each_one}
+use Rattle.co_mv.proofs.Needing.{tied, some_same, any-needed, kept_fewer, Each, each_link, filter-alike, closed-kept, each_closed, grown_alike, never_kept, closed_kept, sees_open}
 use Rattle.co_mv.proofs.Versioning.{and_first, and_second, Linked, linked, wrote_bound, get-with_change}
 
 -- ---- at the start
@@ -165,22 +165,19 @@ closed_each is key n (v ∷ vs) l = (over_again n v.overwritten, each_closed is 
 
 again : (is : List Install) (key : List ℕ) (s : Snapshots) (n : ℕ) (vs : List Version) → s.installs ≡ length is → Linked is key None vs
     → (o : Option (Option (List ℕ))) (value : Option (List ℕ))
-    → filter (is_kept (needed (grown s))) (fresh n value ∷ closed n (after_change (is_kept (needed (grown s))) n (filter (is_kept (needed s)) vs) vs o)) ≡ filter (is_kept (needed (grown s))) (fresh n value ∷ closed n vs)
+    → with_write (is_kept (needed (grown s))) n value (after_change (is_kept (needed (grown s))) n (filter (is_kept (needed s)) vs) vs o) ≡ filter (is_kept (needed (grown s))) (fresh n value ∷ closed n vs)
 again is key s n vs same l o value = ap (λ xs. cond (is_kept (needed (grown s)) (fresh n value)) (fresh n value ∷ xs) xs) (rest o)
   where
-    once : filter (is_kept (needed (grown s))) (filter (is_kept (needed (grown s))) (closed n vs)) ≡ filter (is_kept (needed (grown s))) (closed n vs)
-    once = filter-twice (is_kept (needed (grown s))) (closed n vs)
+    over : List Version
+    over = filter (is_kept (needed (grown s))) (closed n vs)
 
-    overwritten_already : Each (λ v. closed_by n v.overwritten ≡ v.overwritten) (closed n vs)
-    overwritten_already = closed_each is key n vs l
-
-    rest : (o : Option (Option (List ℕ))) → filter (is_kept (needed (grown s))) (closed n (after_change (is_kept (needed (grown s))) n (filter (is_kept (needed s)) vs) vs o)) ≡ filter (is_kept (needed (grown s))) (closed n vs)
+    rest : (o : Option (Option (List ℕ))) → with_closed (is_kept (needed (grown s))) n (after_change (is_kept (needed (grown s))) n (filter (is_kept (needed s)) vs) vs o) ≡ over
     rest None = closed_kept is key s n vs same l
     rest (Some x) = by (is_kept (needed (grown s)) (fresh n x))
       where
-        by : (b : Bool) → filter (is_kept (needed (grown s))) (closed n (cond b (fresh n x ∷ filter (is_kept (needed (grown s))) (closed n vs)) (filter (is_kept (needed (grown s))) (closed n vs)))) ≡ filter (is_kept (needed (grown s))) (closed n vs)
-        by true = ap (λ b. cond b (record { written = n; overwritten = Some n; value = x } ∷ filter (is_kept (needed (grown s))) (filter (is_kept (needed (grown s))) (closed n vs))) (filter (is_kept (needed (grown s))) (filter (is_kept (needed (grown s))) (closed n vs)))) (never_kept (grown s) n x) ∙ once
-        by false = ap (filter (is_kept (needed (grown s)))) (closed-closed n (is_kept (needed (grown s))) (closed n vs) overwritten_already) ∙ once
+        by : (b : Bool) → with_closed (is_kept (needed (grown s))) n (cond b (fresh n x ∷ over) over) ≡ over
+        by true = ap (λ b. cond b (record { written = n; overwritten = Some n; value = x } ∷ over) over) (never_kept (grown s) n x)
+        by false = closed-kept n (is_kept (needed (grown s))) (closed n vs) (closed_each is key n vs l)
 
 later_none : {X : Type 0} (o : Option X) → later o None ≡ o
 later_none None = refl

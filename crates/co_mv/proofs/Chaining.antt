@@ -10,7 +10,7 @@ use Rattle.co_mv.specs.declared.version.Version.{Version}
 use Rattle.co_mv.specs.Chains.{Chains, chain_in, chain_of, laid, rewritten, rewritten_all, narrowed_in, narrowed, settled, pruned, pruned_all}
 use Rattle.co_mv.specs.Kept.{IsPruned, AreLeft}
 use Rattle.co_mv.specs.Recents.{Recents, keys_at, has_key}
-use Rattle.co_mv.specs.Versions.{later, last_change, closed}
+use Rattle.co_mv.specs.Versions.{later, last_change, closed, with_write}
 use Rattle.co_mv.proofs.Needing.{Each, filter-within}
 use Rattle.co_mv.proofs.Versioning.{key_symm}
 use Rattle.co_state.proofs.Ties.{tie}
@@ -156,11 +156,11 @@ later-none None o = refl
 later-none (Some y) o = refl
 
 changed_at : (keep : Version → Bool) (n : ℕ) (m : Chains) (w : Written) (q : List ℕ) (b : Bool) → same_key w.key q ≡ b
-    → chain_of (rewritten keep n m w.key w.value) q ≡ cond b (filter keep (fresh n w.value ∷ closed n (chain_of m w.key))) (chain_of m q)
-changed_at keep n m w q b t = chain-laid m w.key _ q ∙ ap (λ c. cond c (filter keep (fresh n w.value ∷ closed n (chain_of m w.key))) (chain_of m q)) (key_symm q w.key ∙ t)
+    → chain_of (rewritten keep n m w.key w.value) q ≡ cond b (with_write keep n w.value (chain_of m w.key)) (chain_of m q)
+changed_at keep n m w q b t = chain-laid m w.key _ q ∙ ap (λ c. cond c (with_write keep n w.value (chain_of m w.key)) (chain_of m q)) (key_symm q w.key ∙ t)
 
 rewritten_step : (keep : Version → Bool) (n : ℕ) (old all : List Version) (q : List ℕ)
-    → ((o : Option (Option (List ℕ))) (value : Option (List ℕ)) → filter keep (fresh n value ∷ closed n (after_change keep n old all o)) ≡ filter keep (fresh n value ∷ closed n all))
+    → ((o : Option (Option (List ℕ))) (value : Option (List ℕ)) → with_write keep n value (after_change keep n old all o) ≡ filter keep (fresh n value ∷ closed n all))
     → (m : Chains) (w : Written) (ws : List Written) (o : Option (Option (List ℕ))) → chain_of m q ≡ after_change keep n old all o
     → ((o : Option (Option (List ℕ))) → chain_of (rewritten keep n m w.key w.value) q ≡ after_change keep n old all o
     → chain_of (rewritten_all keep n (rewritten keep n m w.key w.value) ws) q ≡ after_change keep n old all (later (last_change ws q) o))
@@ -168,13 +168,13 @@ rewritten_step : (keep : Version → Bool) (n : ℕ) (old all : List Version) (q
     → chain_of (rewritten_all keep n (rewritten keep n m w.key w.value) ws) q ≡ after_change keep n old all (later (later (last_change ws q) (if b then Some w.value else None)) o)
 rewritten_step keep n old all q again m w ws o is rest true t =
     rest (Some w.value)
-    (changed_at keep n m w q true t ∙ ap (λ k. filter keep (fresh n w.value ∷ closed n (chain_of m k))) (same_keys w.key q t) ∙ ap (λ vs. filter keep (fresh n w.value ∷ closed n vs)) is ∙ again o w.value)
+    (changed_at keep n m w q true t ∙ ap (λ k. with_write keep n w.value (chain_of m k)) (same_keys w.key q t) ∙ ap (with_write keep n w.value) is ∙ again o w.value)
     ∙ ap (after_change keep n old all) (sym (later-later (last_change ws q) o w.value))
 rewritten_step keep n old all q again m w ws o is rest false t =
     rest o (changed_at keep n m w q false t ∙ is) ∙ ap (after_change keep n old all) (sym (later-none (last_change ws q) o))
 
 pub chain-rewritten_all : (keep : Version → Bool) (n : ℕ) (old all : List Version) (q : List ℕ)
-    → ((o : Option (Option (List ℕ))) (value : Option (List ℕ)) → filter keep (fresh n value ∷ closed n (after_change keep n old all o)) ≡ filter keep (fresh n value ∷ closed n all))
+    → ((o : Option (Option (List ℕ))) (value : Option (List ℕ)) → with_write keep n value (after_change keep n old all o) ≡ filter keep (fresh n value ∷ closed n all))
     → (m : Chains) (ws : List Written) (o : Option (Option (List ℕ))) → chain_of m q ≡ after_change keep n old all o → chain_of (rewritten_all keep n m ws) q ≡ after_change keep n old all (later (last_change ws q) o)
 chain-rewritten_all keep n old all q again m [] o is = is
 chain-rewritten_all keep n old all q again m (w ∷ ws) o is =

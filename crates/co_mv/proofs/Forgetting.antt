@@ -11,7 +11,7 @@ use Rattle.co_state.proofs.Tables.{look-put, look-without}
 use Rattle.co_mv.specs.declared.archive.Archive.{Archive}
 use Rattle.co_mv.specs.declared.snapshots.Snapshots.{Snapshots}
 use Rattle.co_mv.specs.Kept.{held, needed, IsHeld, IsNeeded, IsNext, IsReleased, IsGreatestHeld, IsPruned, IsNarrowed, Keeps}
-use Rattle.co_mv.specs.Versions.{is_kept}
+use Rattle.co_mv.specs.Versions.{stays}
 use Rattle.co_mv.specs.Recents.{Recents, keys_at, keys_in}
 use Rattle.co_mv.proofs.Archiving.{Noted}
 use Rattle.co_mv.proofs.Releasing.{Ends, StayKept, stay_kept_above, stay_kept_below, keeps_released}
@@ -111,7 +111,7 @@ noted_none a n ws e = record {
 -- ---- a number is held no more
 -- another reader reads at an earlier number, so that nothing is forgotten
 pub keeps_narrowed : (a b : Archive) (base : Records) (is : List Install) (s : Snapshots) (m next before : ℕ) (window : ℕ × ℕ) → IsReleased a.snapshots s m → IsNext s m next → IsGreatestHeld s m before
-    → (window ≡ (before, m)) ⊎ (window ≡ (m, next)) → IsNarrowed window.0 window.1 (record a { snapshots = s }) b → Keeps a base is → Keeps b base is
+    → (window ≡ (before, m)) ⊎ (window ≡ (m, next)) → IsNarrowed m window.0 window.1 (record a { snapshots = s }) b → Keeps a base is → Keeps b base is
 keeps_narrowed a b base is s m next before window r after earlier w n k =
     keeps_released a b base is s m window.0 window.1 n.snapshots_stay r (by w) n.pruned
     (λ x j h l. ap (λ m. keys_at m j) n.recents_stay)
@@ -123,7 +123,7 @@ keeps_narrowed a b base is s m next before window r after earlier w n k =
 
 -- it was the least number
 pub keeps_forgotten : (a b : Archive) (base : Records) (is : List Install) (s : Snapshots) (m next : ℕ) → IsReleased a.snapshots s m → IsNext s m next → ((n : ℕ) → IsHeld s n → m ≤ n) → b.snapshots ≡ s
-    → IsPruned (is_kept (needed s)) a.recents m next a.chains b.chains
+    → IsPruned (stays m (needed s)) a.recents m next a.chains b.chains
     → ((n : ℕ) → next < n → keys_at b.recents n ≡ keys_at a.recents n) → ((n : ℕ) → m < n → n ≤ next → keys_at b.recents n ≡ []) → ((n : ℕ) → n ≤ m → keys_at b.recents n ≡ keys_at a.recents n)
     → Keeps a base is → Keeps b base is
 keeps_forgotten a b base is s m next r after least es pruned later gone earlier k =

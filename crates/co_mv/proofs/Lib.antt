@@ -3,6 +3,7 @@ mod Outcomes
 mod Versioning
 mod Needing
 mod Stamping
+mod Newest
 mod Chaining
 mod Archiving
 mod Releasing

@@ -13,7 +13,7 @@ use Rattle.co_mv.specs.declared.version.Version.{Version}
 use Rattle.co_state.specs.Table.{Table}
 use Rattle.co_stamps.specs.Stamped.{IsStamp}
 use Rattle.co_mv.specs.Kept.{stamps, pinned_numbers, held, needed, grown, IsHeld, IsNeeded}
-use Rattle.co_mv.specs.Versions.{closed_by, closed, is_before, sees, is_gone, is_kept}
+use Rattle.co_mv.specs.Versions.{closed_by, closed, with_closed, is_before, sees, is_gone, is_kept}
 use Rattle.co_mv.proofs.Versioning.{le_true, true_le, true_lt, and_first, and_second, and-false, IsLink, Linked, written_bound}
 pub use Rattle.co_state.proofs.Ties.{first, second, tied, ties-itself}
 use Rattle.co_state.proofs.Ties.{nothing_below}
@@ -160,22 +160,31 @@ pub filter-within : (k k' : Version → Bool) (vs : List Version) → Each (λ v
 filter-within k k' [] h = refl
 filter-within k k' (v ∷ vs) h = within_step k k' v vs (k v) (k' v) refl refl h.0 (filter-within k k' vs h.1)
 
+within_alike_step : (k p q : Version → Bool) (v : Version) (ws : List Version) (a : Bool) → k v ≡ a → (k v ≡ true → p v ≡ q v) → filter p ws ≡ filter q ws → filter p (cond a (v ∷ ws) ws) ≡ filter q (cond a (v ∷ ws) ws)
+within_alike_step k p q v ws true e h rest = (λ i. cond (h e i) (v ∷ rest i) (rest i))
+within_alike_step k p q v ws false e h rest = rest
+
+-- two tests that agree on what is left
+pub within-alike : (k p q : Version → Bool) (vs : List Version) → ((v : Version) → k v ≡ true → p v ≡ q v) → filter p (filter k vs) ≡ filter q (filter k vs)
+within-alike k p q [] h = refl
+within-alike k p q (v ∷ vs) h = within_alike_step k p q v (filter k vs) (k v) refl (h v) (within-alike k p q vs h)
+
 pub filter-alike : (k k' : Version → Bool) (vs : List Version) → Each (λ v. k v ≡ k' v) vs → filter k vs ≡ filter k' vs
 filter-alike k k' [] h = refl
 filter-alike k k' (v ∷ vs) h = (λ i. cond (h.0 i) (v ∷ filter-alike k k' vs h.1 i) (filter-alike k k' vs h.1 i))
 
-closed_step : (n : ℕ) (v : Version) (vs ws : List Version) (a : Bool) → closed_by n v.overwritten ≡ v.overwritten → closed n ws ≡ ws → closed n (cond a (v ∷ ws) ws) ≡ cond a (v ∷ ws) ws
-closed_step n v vs ws true h rest = (λ i. record v { overwritten = h i } ∷ ws)
-closed_step n v vs ws false h rest = rest
-
--- a version that was overwritten stays so
-pub closed-closed : (n : ℕ) (k : Version → Bool) (vs : List Version) → Each (λ v. closed_by n v.overwritten ≡ v.overwritten) vs → closed n (filter k vs) ≡ filter k vs
-closed-closed n k [] h = refl
-closed-closed n k (v ∷ vs) h = closed_step n v vs (filter k vs) (k v) h.0 (closed-closed n k vs h.1)
-
 pub each_closed : (is : List Install) (key : List ℕ) (n m : ℕ) (vs : List Version) → Linked is key (Some m) vs → Each (λ v. closed_by n v.overwritten ≡ v.overwritten) vs
 each_closed is key n m [] l = tt
 each_closed is key n m (v ∷ vs) l = (ap (closed_by n) l.0.ended ∙ sym l.0.ended, each_closed is key n v.written vs l.1)
+
+closed_kept_step : (n : ℕ) (k : Version → Bool) (v : Version) (vs ws : List Version) (a : Bool) → k v ≡ a → closed_by n v.overwritten ≡ v.overwritten → with_closed k n ws ≡ ws
+    → with_closed k n (cond a (v ∷ ws) ws) ≡ cond a (v ∷ ws) ws
+closed_kept_step n k v vs ws true e h rest = (λ i. cond (k (record v { overwritten = h i })) (record v { overwritten = h i } ∷ ws) ws) ∙ ap (λ b. cond b (v ∷ ws) ws) e
+closed_kept_step n k v vs ws false e h rest = rest
+
+pub closed-kept : (n : ℕ) (k : Version → Bool) (vs : List Version) → Each (λ v. closed_by n v.overwritten ≡ v.overwritten) vs → with_closed k n (filter k vs) ≡ filter k vs
+closed-kept n k [] h = refl
+closed-kept n k (v ∷ vs) h = closed_kept_step n k v vs (filter k vs) (k v) refl h.0 (closed-kept n k vs h.1)
 
 -- ---- one install more
 pub sees_open : (n : ℕ) (v : Version) → v.overwritten ≡ None → v.written ≤ n → sees n v ≡ true
@@ -250,35 +259,26 @@ never_kept s n value = by (list_any (λ m. nat_le n m && nat_lt m n) (needed s))
         absurd (omega (arith, a, b))
     by false e = refl
 
--- the versions that were kept before an install are enough after it
+-- of the versions that were kept before an install only the newest one can become unread
 pub closed_kept : (is : List Install) (key : List ℕ) (s : Snapshots) (n : ℕ) (vs : List Version) → s.installs ≡ length is → Linked is key None vs
-    → filter (is_kept (needed (grown s))) (closed n (filter (is_kept (needed s)) vs)) ≡ filter (is_kept (needed (grown s))) (closed n vs)
+    → with_closed (is_kept (needed (grown s))) n (filter (is_kept (needed s)) vs) ≡ filter (is_kept (needed (grown s))) (closed n vs)
 closed_kept is key s n [] same l = refl
 closed_kept is key s n (v ∷ vs) same l = by (is_kept (needed s) v) refl
   where
-    keep : Version → Bool
-    keep = is_kept (needed s)
-
-    keep_after : Version → Bool
-    keep_after = is_kept (needed (grown s))
-
-    ended : Version
-    ended = record v { overwritten = closed_by n v.overwritten }
-
-    rest : filter (is_kept (needed (grown s))) (filter (is_kept (needed s)) vs) ≡ filter (is_kept (needed (grown s))) vs
-    rest = filter-within (is_kept (needed s)) (is_kept (needed (grown s))) vs
-        (each_link is key (λ u. is_kept (needed (grown s)) u ≡ true → is_kept (needed s) u ≡ true) (Some v.written) vs l.1 (λ u end m. grown_from is key end u s same m))
+    alike : filter (is_kept (needed s)) vs ≡ filter (is_kept (needed (grown s))) vs
+    alike = filter-alike (is_kept (needed s)) (is_kept (needed (grown s))) vs
+        (each_link is key (λ u. is_kept (needed s) u ≡ is_kept (needed (grown s)) u) (Some v.written) vs l.1 (λ u end m. grown_alike is key end u s same m))
 
     gone : (b : Bool) → is_kept (needed (grown s)) (record v { overwritten = closed_by n v.overwritten }) ≡ b → is_kept (needed s) v ≡ false → b ≡ false
     gone true e f = absurd (true≢false (sym (newest_still is key v s n same l.0 e) ∙ f))
     gone false e f = refl
 
     by : (b : Bool) → is_kept (needed s) v ≡ b
-        → filter (is_kept (needed (grown s))) (closed n (cond b (v ∷ filter (is_kept (needed s)) vs) (filter (is_kept (needed s)) vs)))
+        → with_closed (is_kept (needed (grown s))) n (cond b (v ∷ filter (is_kept (needed s)) vs) (filter (is_kept (needed s)) vs))
         ≡ cond (is_kept (needed (grown s)) (record v { overwritten = closed_by n v.overwritten })) (record v { overwritten = closed_by n v.overwritten } ∷ filter (is_kept (needed (grown s))) vs) (filter (is_kept (needed (grown s))) vs)
-    by true e = (λ i. cond (is_kept (needed (grown s)) (record v { overwritten = closed_by n v.overwritten })) (record v { overwritten = closed_by n v.overwritten } ∷ rest i) (rest i))
+    by true e = (λ i. cond (is_kept (needed (grown s)) (record v { overwritten = closed_by n v.overwritten })) (record v { overwritten = closed_by n v.overwritten } ∷ alike i) (alike i))
     by false e =
-        ap (filter (is_kept (needed (grown s)))) (closed-closed n (is_kept (needed s)) vs (each_closed is key n v.written vs l.1)) ∙ rest
+        ap (with_closed (is_kept (needed (grown s))) n) alike ∙ closed-kept n (is_kept (needed (grown s))) vs (each_closed is key n v.written vs l.1)
         ∙ sym (ap (λ b. cond b (record v { overwritten = closed_by n v.overwritten } ∷ filter (is_kept (needed (grown s))) vs) (filter (is_kept (needed (grown s))) vs)) (gone _ refl e))
 
 -- a version that some number sees is kept where another number is before it

@@ -1,6 +1,7 @@
 -- What an archive keeps after a number is held no more.
-use Rattle.std.proofs.Common.{◌≡◌, ◌⊎◌, inl, inr, ℕ, ◌<◌, ◌≤◌, Bool, true, false, cond, ◌&&◌, List, [], filter, Option, None, Some, refl, sym, ap, ◌∙◌, subst, true≢false, arith}
+use Rattle.std.proofs.Common.{◌≡◌, ◌⊎◌, inl, inr, ℕ, ◌<◌, ◌≤◌, Bool, true, false, not, cond, ◌&&◌, ◌||◌, List, [], filter, is_some, Option, None, Some, refl, sym, ap, ◌∙◌, subst, true≢false, arith}
 use Rattle.std.specs.Prelude.{nat_lt, nat_le}
+use Rattle.std.specs.List.{list_any, list_all}
 use Rattle.std.proofs.lemmas.Bool.Decides.{nat_tests}
 use Rattle.std.specs.Ordering.{nat_cmp, eq_by_cmp}
 use Rattle.std.specs.Cmp.{both_ways}
@@ -15,9 +16,9 @@ use Rattle.co_mv.specs.Chains.{chain_of}
 use Rattle.co_stamps.specs.Stamped.{IsStamp}
 use Rattle.co_mv.specs.Kept.{needed, left, unpinned, IsHeld, IsNeeded, IsNext, IsReleased, IsPruned, Keeps, wrote_at}
 use Rattle.co_mv.specs.Recents.{Recents, keys_at, has_key}
-use Rattle.co_mv.specs.Versions.{versions_of, is_before, sees, is_kept}
+use Rattle.co_mv.specs.Versions.{versions_of, is_before, sees, is_gone, is_kept, is_apart, stays}
 use Rattle.co_mv.proofs.Chaining.{each_one}
-use Rattle.co_mv.proofs.Needing.{tied, some_same, kept_to, kept_fewer, each_link, filter-within, filter-alike}
+use Rattle.co_mv.proofs.Needing.{tied, some_same, any-needed, needed-any, within-alike, kept_to, kept_fewer, each_link, filter-within, filter-alike}
 use Rattle.co_mv.proofs.Versioning.{le_true, true_le, lt_true, true_lt, and_first, and_second, IsLink, linked, IsWritten}
 
 -- ---- a number is held no more
@@ -182,8 +183,41 @@ pub stay_kept_below : (a : Archive) (base : Records) (is : List Install) (s : Sn
 stay_kept_below a base is s m before r there l k key none =
     kept_below is key a.snapshots s m before r (inr there) l (λ n x y w. true≢false (sym (k.recents_are before n key (r.was before there) x w) ∙ none n x y))
 
+-- what the reader that has gone did not see, and what is no more gone than before, is still kept
+apart_kept : (s s' : Snapshots) (m : ℕ) (v : Version) → IsReleased s s' m → is_kept (needed s) v ≡ true → sees m v ≡ false → (v.value ≡ None → v.written ≤ m) → is_kept (needed s') v ≡ true
+apart_kept s s' m v r k unseen early = by v.value refl
+  where
+    seen : (n : ℕ) → IsNeeded s n → sees n v ≡ true → IsNeeded s' n ⊎ (n ≡ m) → (j : ℕ) × IsNeeded s' j × (sees j v ≡ true)
+    seen n h e (inl g) = (n, g, e)
+    seen n h e (inr x) = absurd (true≢false (sym e ∙ ap (λ j. sees j v) x ∙ unseen))
+
+    gone : v.written ≤ m → ((j : ℕ) → IsNeeded s' j → v.written ≤ j) → (n : ℕ) → IsNeeded s' n ⊎ (n ≡ m) → v.written ≤ n
+    gone l all n (inl g) = all n g
+    gone l all n (inr x) = omega (arith, l, x)
+
+    by : (o : Option (List ℕ)) → v.value ≡ o → is_kept (needed s') v ≡ true
+    by None e = kept_to s s' v (λ n h f. seen n h f (released_case s s' m n r h)) (λ all n h. gone (early e) all n (released_case s s' m n r h)) k
+    by (Some x) e =
+        let q = needed-any (λ n. sees n v) s (and_first (list_any (λ n. sees n v) (needed s)) (not (is_gone (needed s) v)) k) in
+        let t = seen q.0 q.1 q.2 (released_case s s' m q.0 r q.1) in
+        (λ i. any-needed (λ n. sees n v) s' t.0 t.1 t.2 i && not (not (is_some (e i)) && list_all (λ n. nat_le v.written n) (needed s')))
+
+apart_early : (m : ℕ) (v : Version) → (is_some v.value || nat_le v.written m) ≡ true → v.value ≡ None → v.written ≤ m
+apart_early m v h e = true_le v.written m (ap (λ o. is_some o || nat_le v.written m) (sym e) ∙ h)
+
+stays_alike : (s s' : Snapshots) (m : ℕ) (v : Version) → IsReleased s s' m → is_kept (needed s) v ≡ true → stays m (needed s') v ≡ is_kept (needed s') v
+stays_alike s s' m v r k = by (is_apart m v) refl
+  where
+    not_true : (b : Bool) → not b ≡ true → b ≡ false
+    not_true true e = sym e
+    not_true false e = refl
+
+    by : (b : Bool) → is_apart m v ≡ b → (b || is_kept (needed s') v) ≡ is_kept (needed s') v
+    by true e = sym (apart_kept s s' m v r k (not_true (sees m v) (and_first (not (sees m v)) (is_some v.value || nat_le v.written m) e)) (apart_early m v (and_second (not (sees m v)) (is_some v.value || nat_le v.written m) e)))
+    by false e = refl
+
 keeps_released_at : (a b : Archive) (base : Records) (is : List Install) (m from to : ℕ) → IsReleased a.snapshots b.snapshots m → StayKept a is b.snapshots from to
-    → IsPruned (is_kept (needed b.snapshots)) a.recents from to a.chains b.chains
+    → IsPruned (stays m (needed b.snapshots)) a.recents from to a.chains b.chains
     → ((k n : ℕ) → IsHeld b.snapshots k → k < n → keys_at b.recents n ≡ keys_at a.recents n) → Ends b.snapshots b.recents → Keeps a base is → Keeps b base is
 keeps_released_at a b base is m from to r stay pruned recents ends k = record {
   installs_are = r.installs_stay ∙ k.installs_are;
@@ -197,11 +231,12 @@ keeps_released_at a b base is m from to r stay pruned recents ends k = record {
     fewer : (v : Version) → is_kept (needed b.snapshots) v ≡ true → is_kept (needed a.snapshots) v ≡ true
     fewer v = kept_fewer a.snapshots b.snapshots v (λ n. released_was a.snapshots b.snapshots m n r)
 
-    by : (key : List ℕ) → (chain_of b.chains key ≡ filter (is_kept (needed b.snapshots)) (chain_of a.chains key))
+    by : (key : List ℕ) → (chain_of b.chains key ≡ filter (stays m (needed b.snapshots)) (chain_of a.chains key))
         ⊎ ((chain_of b.chains key ≡ chain_of a.chains key) × ((n : ℕ) → from < n → n ≤ to → has_key (keys_at a.recents n) key ≡ false))
         → chain_of b.chains key ≡ filter (is_kept (needed b.snapshots)) (versions_of base is key)
     by key (inl e) =
-        e ∙ ap (filter (is_kept (needed b.snapshots))) (k.chains_are key)
+        e ∙ ap (filter (stays m (needed b.snapshots))) (k.chains_are key)
+        ∙ within-alike (is_kept (needed a.snapshots)) (stays m (needed b.snapshots)) (is_kept (needed b.snapshots)) (versions_of base is key) (λ v. stays_alike a.snapshots b.snapshots m v r)
         ∙ filter-within (is_kept (needed a.snapshots)) (is_kept (needed b.snapshots)) (versions_of base is key) (each_one _ fewer (versions_of base is key))
     by key (inr e) =
         e.0 ∙ k.chains_are key
@@ -210,9 +245,9 @@ keeps_released_at a b base is m from to r stay pruned recents ends k = record {
         (λ v end l. both_ways _ _ (stay key e.1 v end l) (fewer v)))
 
 pub keeps_released : (a b : Archive) (base : Records) (is : List Install) (s : Snapshots) (m from to : ℕ) → b.snapshots ≡ s → IsReleased a.snapshots s m → StayKept a is s from to
-    → IsPruned (is_kept (needed s)) a.recents from to a.chains b.chains
+    → IsPruned (stays m (needed s)) a.recents from to a.chains b.chains
     → ((k n : ℕ) → IsHeld s k → k < n → keys_at b.recents n ≡ keys_at a.recents n) → Ends s b.recents → Keeps a base is → Keeps b base is
 keeps_released a b base is s m from to es r stay pruned recents ends =
     keeps_released_at a b base is m from to (subst (λ x. IsReleased a.snapshots x m) (sym es) r) (subst (λ x. StayKept a is x from to) (sym es) stay)
-    (subst (λ x. IsPruned (is_kept (needed x)) a.recents from to a.chains b.chains) (sym es) pruned)
+    (subst (λ x. IsPruned (stays m (needed x)) a.recents from to a.chains b.chains) (sym es) pruned)
     (λ k n h. recents k n (subst (λ x. IsHeld x k) es h)) (subst (λ x. Ends x b.recents) (sym es) ends)

@@ -5,7 +5,7 @@ use Rattle.co_base.specs.Order.{key_cmp}
 use Rattle.co_base.specs.declared.row.Row.{Row}
 use Rattle.co_base.specs.declared.written.Written.{Written}
 use Rattle.co_mv.specs.declared.version.Version.{Version}
-use Rattle.co_mv.specs.Versions.{base_versions, closed}
+use Rattle.co_mv.specs.Versions.{base_versions, with_write}
 
 abbrev pub Chains : Type 0
 Chains = FinMap key_cmp (List Version)
@@ -28,10 +28,10 @@ abbrev pub laid : Chains → List ℕ → List Version → Chains
 laid m key [] = m
 laid m key (v ∷ vs) = insert m key (v ∷ vs)
 
--- an install writes a key, and those of its versions stay that are kept
+-- an install writes a key
 abbrev pub rewritten : (Version → Bool) → ℕ → Chains → List ℕ → Option (List ℕ) → Chains
 rewritten keep install m key value =
-    laid (remove m key) key (filter keep (record { written = install; overwritten = None; value = value } ∷ closed install (chain_of m key)))
+    laid (remove m key) key (with_write keep install value (chain_of m key))
 
 abbrev pub rewritten_all : (Version → Bool) → ℕ → Chains → List Written → Chains
 rewritten_all keep install m [] = m

@@ -14,7 +14,7 @@ use Rattle.co_mv.specs.Reading.{all_noted, laid_within}
 use Rattle.co_mv.specs.Recents.{Recents, keys_at, has_key}
 use Rattle.co_base.specs.Span.{Span, span_has}
 use Rattle.co_base.specs.declared.written.Written.{Written}
-use Rattle.co_mv.specs.Versions.{is_kept, versions_of}
+use Rattle.co_mv.specs.Versions.{is_kept, stays, versions_of}
 use Rattle.co_serial.specs.Records.{Records}
 use Rattle.co_state.specs.declared.engine_state.EngineState.{EngineState}
 use Rattle.co_state.specs.declared.engine_state.Install.{Install}
@@ -111,11 +111,11 @@ abbrev pub AreLeft : Recents → ℕ → ℕ → Chains → Chains → Type 0
 AreLeft recents from to old new =
     (key : List ℕ) → ((n : ℕ) → from < n → n ≤ to → has_key (keys_at recents n) key ≡ false) → chain_of new key ≡ chain_of old key
 
--- the archive was pruned by the installs of a window, and nothing else of it changed
-pub record IsNarrowed (from to : ℕ) (old new : Archive) : Type 0 where
+-- the archive was pruned of what only a reader at a number read, by the installs of a window, and nothing else of it changed
+pub record IsNarrowed (number from to : ℕ) (old new : Archive) : Type 0 where
   pub snapshots_stay : new.snapshots ≡ old.snapshots
   pub recents_stay : new.recents ≡ old.recents
-  pub pruned : IsPruned (is_kept (needed old.snapshots)) old.recents from to old.chains new.chains
+  pub pruned : IsPruned (stays number (needed old.snapshots)) old.recents from to old.chains new.chains
 
 -- ---- the snapshots after calls
 abbrev pub entered : Snapshots → ℕ → Snapshots

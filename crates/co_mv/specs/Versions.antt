@@ -1,6 +1,6 @@
 -- The versions of a key: what it held from one install to another one. The base's row counts as written
 -- before all installs, under the number 0.
-use Rattle.std.specs.Prelude.{ℕ, suc, Bool, true, ◌&&◌, not, nat_le, nat_lt, List, [], ◌∷◌, ◌++◌, map, filter, length, reverse, if◌then◌else◌, is_some, Option, None, Some}
+use Rattle.std.specs.Prelude.{ℕ, suc, Bool, true, ◌&&◌, ◌||◌, not, nat_le, nat_lt, List, [], ◌∷◌, ◌++◌, map, filter, length, reverse, if◌then◌else◌, is_some, Option, None, Some}
 use Rattle.std.specs.List.{list_any, list_all}
 use Rattle.std.specs.FinMap.{entries, get}
 use Rattle.co_base.specs.declared.written.Written.{Written}
@@ -34,6 +34,19 @@ abbrev pub closed : ℕ → List Version → List Version
 closed install [] = []
 closed install (v ∷ vs) = record v { overwritten = closed_by install v.overwritten } ∷ vs
 
+-- a version lies over others, if it is kept
+abbrev pub with_newest : (Version → Bool) → Version → List Version → List Version
+with_newest keep v vs = if keep v then v ∷ vs else vs
+
+-- the newest version is overwritten by an install, and goes if it is not kept
+abbrev pub with_closed : (Version → Bool) → ℕ → List Version → List Version
+with_closed keep install [] = []
+with_closed keep install (v ∷ vs) = with_newest keep (record v { overwritten = closed_by install v.overwritten }) vs
+
+-- and what the install wrote lies over it
+abbrev pub with_write : (Version → Bool) → ℕ → Option (List ℕ) → List Version → List Version
+with_write keep install value vs = with_newest keep (record { written = install; overwritten = None; value = value }) (with_closed keep install vs)
+
 -- the versions after an install that wrote the key, or did not
 abbrev pub written_over : ℕ → Option (Option (List ℕ)) → List Version → List Version
 written_over install None vs = vs
@@ -61,6 +74,14 @@ is_gone needed v = not (is_some v.value) && list_all (λ n. nat_le v.written n) 
 -- where it is at or before every needed number.
 abbrev pub is_kept : List ℕ → Version → Bool
 is_kept needed v = list_any (λ n. sees n v) needed && not (is_gone needed v)
+
+-- A version that was kept stays, once a reader at a number has gone: one that it did not see has its other
+-- readers, and one with a value, or written at or before that number, is no more gone than before. Another one stays if it is kept.
+abbrev pub is_apart : ℕ → Version → Bool
+is_apart number v = not (sees number v) && (is_some v.value || nat_le v.written number)
+
+abbrev pub stays : ℕ → List ℕ → Version → Bool
+stays number needed v = is_apart number v || is_kept needed v
 
 -- the number of installs at the first operation of an active transaction
 abbrev pub first_stamp : ℕ → List Operation → ℕ

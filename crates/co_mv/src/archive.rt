@@ -107,21 +107,28 @@ impl Archive {
         match self.snapshots.greatest_held_below(number) {
             Some(before) => {
                 let (from, to) = narrower(before, number, next);
-                self.prune(from, to);
+                self.prune(number, from, to);
             }
             None => {
-                self.prune(number, next);
+                self.prune(number, number, next);
                 forget_window(&mut self.recents, number, next);
             }
         }
     }
 
-    /// Forgets the versions that are read no more, of the keys that were written by the installs after `from`
-    /// and up to `to`. Takes no memory.
-    fn prune(&mut self, from: u64, to: u64)
-        ensures { IsNarrowed from to self.old self.new }
+    /// Forgets the versions that only a reader at this number read, which has gone, of the keys that were written
+    /// by the installs after `from` and up to `to`. Takes no memory.
+    fn prune(&mut self, number: u64, from: u64, to: u64)
+        ensures { IsNarrowed number from to self.old self.new }
     {
-        prune_window(&mut self.chains, &self.recents, from, to, &self.snapshots);
+        prune_window(
+            &mut self.chains,
+            &self.recents,
+            number,
+            from,
+            to,
+            &self.snapshots,
+        );
     }
 
     /// An install makes changes. The versions that it leaves unread are forgotten. There are 2^64 - 1 installs at

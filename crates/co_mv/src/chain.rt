@@ -1,7 +1,7 @@
 //! The versions of one key.
 ghost use Rattle.std.specs.Prelude.{◌≡◌, ◌==◌, ◌<◌, [], ◌∷◌, Some, map, reverse, filter, length, slice_get, IfOk, OnOk, option_copied};
 ghost use Rattle.std.specs.List.{list_any};
-ghost use Rattle.co_mv.specs.Versions.{seen_value, closed, is_kept, base_versions, written_since};
+ghost use Rattle.co_mv.specs.Versions.{seen_value, is_kept, stays, base_versions, written_since, with_newest, with_closed, with_write};
 ghost use Rattle.co_mv.specs.Kept.{needed};
 
 use crate::snapshots::Snapshots;
@@ -10,19 +10,19 @@ use co_base::Value;
 use std::alloc::{AllocError, Global};
 use std::marker::Model;
 
-/// The versions of a key, the newest first. A contract sees the list.
+/// The versions of a key. A contract sees the list of them, the newest first.
 #[derive(Drop)]
 pub struct Chain {
-    versions: Vec<Version>,
+    oldest_first: Vec<Version>,
 }
 
 impl Model for Chain {
-    ghost use Rattle.std.specs.Prelude.{List};
+    ghost use Rattle.std.specs.Prelude.{List, reverse};
     ghost use Rattle.co_mv.specs.declared.version.Version.{Version};
 
     ghost Value = { List Version };
 
-    ghost view = { λ c. c.versions.items };
+    ghost view = { λ c. reverse c.oldest_first.items };
 }
 
 impl Chain {
@@ -31,7 +31,7 @@ impl Chain {
         ensures { result ≡ [] }
     {
         Chain {
-            versions: Vec::new(alloc),
+            oldest_first: Vec::new(alloc),
         }
     }
 
@@ -39,27 +39,27 @@ impl Chain {
     pub fn of_value(alloc: Global, value: Value) -> Result<Chain, AllocError>
         ensures { IfOk result (λ chain. chain ≡ base_versions (Some value)) }
     {
-        let mut versions = Vec::with_capacity(alloc, 1)?;
-        versions.push(Version {
+        let mut oldest_first = Vec::with_capacity(alloc, 1)?;
+        oldest_first.push(Version {
             written: 0,
             overwritten: None,
             value: Some(value),
         })?;
-        Ok(Chain { versions })
+        Ok(Chain { oldest_first })
     }
 
     /// How many versions there are.
     pub fn len(&self) -> usize
         ensures { result ≡ length self.now }
     {
-        self.versions.len()
+        self.oldest_first.len()
     }
 
     /// Whether there is no version.
     pub fn is_empty(&self) -> bool
         ensures { result ≡ (length self.now == 0) }
     {
-        self.versions.is_empty()
+        self.oldest_first.is_empty()
     }
 
     /// The value of the version at a place, counted from the oldest one at place 0.
@@ -67,15 +67,23 @@ impl Chain {
         requires { place < length self.now }
         ensures { slice_get (map (λ v. v.value) (reverse self.now)) place ≡ Some (option_copied result) }
     {
-        let version = &self.versions[self.versions.len() - 1 - place];
-        version.value.as_ref()
+        self.oldest_first[place].value.as_ref()
+    }
+
+    /// The version at a place, counted from the newest one at place 0.
+    fn at(&self, place: usize) -> &Version
+        requires { place < length self.now }
+        ensures { slice_get self.now place ≡ Some result.now }
+    {
+        &self.oldest_first[self.oldest_first.len() - 1 - place]
     }
 
     /// The value of the key after the first so many installs.
     pub fn value_at(&self, installs: u64) -> Option<&Value>
         ensures { option_copied result ≡ seen_value installs self.now }
     {
-        for version in self.versions.as_slice() {
+        for place in 0..self.len() {
+            let version = self.at(place);
             if version.is_seen_at(installs) {
                 return version.value.as_ref();
             }
@@ -87,7 +95,8 @@ impl Chain {
     pub fn is_written_since(&self, installs: u64) -> bool
         ensures { result ≡ written_since installs self.now }
     {
-        for version in self.versions.as_slice() {
+        for place in 0..self.len() {
+            let version = self.at(place);
             if installs < version.written {
                 return true;
             }
@@ -95,38 +104,52 @@ impl Chain {
         false
     }
 
-    /// The newest version is overwritten by an install.
-    fn close(&mut self, install: u64)
-        ensures { self.new ≡ closed install self.old }
+    /// Lays a version over the others, if a reader reads it.
+    fn lay(&mut self, version: Version, snapshots: &Snapshots) -> Result<(), AllocError>
+        ensures { OnOk result (self.new ≡ with_newest (is_kept (needed snapshots.now)) version self.old) }
     {
-        if self.versions.is_empty() {
-            return;
+        if !snapshots.is_kept(&version) {
+            return Ok(());
         }
-        if self.versions[0].overwritten.is_none() {
-            self.versions[0].overwritten = Some(install);
-        }
-    }
-
-    /// Adds the version that an install wrote.
-    pub fn write(&mut self, install: u64, value: Option<Value>) -> Result<(), AllocError>
-        ensures { OnOk result (self.new ≡ record { written = install; overwritten = None; value = value } ∷ closed install self.old) }
-    {
-        self.close(install);
-        self.versions.insert(
-            0,
-            Version {
-                written: install,
-                overwritten: None,
-                value,
-            },
-        )?;
+        self.oldest_first.push(version)?;
         Ok(())
     }
 
-    /// Forgets the versions that no reader reads. Takes no memory.
-    pub fn prune(&mut self, snapshots: &Snapshots)
-        ensures { self.new ≡ filter (is_kept (needed snapshots.now)) self.old }
+    /// The newest version is overwritten by an install, and forgotten if no reader reads it any more.
+    fn close(&mut self, install: u64, snapshots: &Snapshots) -> Result<(), AllocError>
+        ensures { OnOk result (self.new ≡ with_closed (is_kept (needed snapshots.now)) install self.old) }
     {
-        self.versions.retain(|version| snapshots.is_kept(version));
+        let Some(mut newest) = self.oldest_first.pop() else {
+            return Ok(());
+        };
+        newest.close(install);
+        self.lay(newest, snapshots)
+    }
+
+    /// Adds the version that an install wrote. It and the one that was the newest are forgotten if no reader
+    /// reads them; no other one is looked at.
+    pub fn write(
+        &mut self,
+        install: u64,
+        value: Option<Value>,
+        snapshots: &Snapshots,
+    ) -> Result<(), AllocError>
+        ensures { OnOk result (self.new ≡ with_write (is_kept (needed snapshots.now)) install value self.old) }
+    {
+        self.close(install, snapshots)?;
+        let version = Version {
+            written: install,
+            overwritten: None,
+            value,
+        };
+        self.lay(version, snapshots)
+    }
+
+    /// Forgets the versions that only a reader at this number read, which has gone. Takes no memory.
+    pub fn prune(&mut self, number: u64, snapshots: &Snapshots)
+        ensures { self.new ≡ filter (stays number (needed snapshots.now)) self.old }
+    {
+        self.oldest_first
+            .retain(|version| snapshots.stays(version, number));
     }
 }

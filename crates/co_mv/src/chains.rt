@@ -3,7 +3,7 @@ ghost use Rattle.std.specs.Prelude.{◌≡◌, ◌<◌, [], Some, map, reverse, 
 ghost use Rattle.std.specs.FinMap as finite;
 ghost use Rattle.std.specs.FinMap.{entries};
 ghost use Rattle.co_base.specs.Span.{span_has};
-ghost use Rattle.co_mv.specs.Versions.{is_kept, base_versions, seen_value};
+ghost use Rattle.co_mv.specs.Versions.{is_kept, stays, base_versions, seen_value};
 ghost use Rattle.co_mv.specs.Chains.{chain_in, chain_of, narrowed, settled, pruned, pruned_all, rewritten, rewritten_all, chains_from};
 ghost use Rattle.co_mv.specs.Kept.{needed};
 
@@ -136,7 +136,7 @@ impl Chains {
         Ok(chains)
     }
 
-    /// An install writes a key. Of its versions those are kept that are read.
+    /// An install writes a key.
     fn write(
         &mut self,
         alloc: Global,
@@ -148,8 +148,7 @@ impl Chains {
         ensures { OnOk result (self.new ≡ rewritten (is_kept (needed snapshots.now)) install self.old key value) }
     {
         let mut chain = self.take(alloc, &key);
-        chain.write(install, value)?;
-        chain.prune(snapshots);
+        chain.write(install, value, snapshots)?;
         if chain.is_empty() {
             return Ok(());
         }
@@ -173,14 +172,14 @@ impl Chains {
         Ok(())
     }
 
-    /// Forgets the versions of a key that are not read.
-    fn narrow(&mut self, key: &Key, snapshots: &Snapshots)
-        ensures { self.new ≡ narrowed (is_kept (needed snapshots.now)) self.old key.now }
+    /// Forgets the versions of a key that only a reader at this number read, which has gone.
+    fn narrow(&mut self, key: &Key, number: u64, snapshots: &Snapshots)
+        ensures { self.new ≡ narrowed (stays number (needed snapshots.now)) self.old key.now }
     {
         let Some(chain) = self.map.get_mut(key) else {
             return;
         };
-        chain.prune(snapshots);
+        chain.prune(number, snapshots);
     }
 
     /// Takes a key away that has no versions.
@@ -192,20 +191,21 @@ impl Chains {
         }
     }
 
-    /// Forgets the versions of a key that are not read, and the key where none is left. Takes no memory.
-    fn prune(&mut self, key: &Key, snapshots: &Snapshots)
-        ensures { self.new ≡ pruned (is_kept (needed snapshots.now)) self.old key.now }
+    /// Forgets the versions of a key that only a reader at this number read, which has gone, and the key where
+    /// none is left. Takes no memory.
+    fn prune(&mut self, key: &Key, number: u64, snapshots: &Snapshots)
+        ensures { self.new ≡ pruned (stays number (needed snapshots.now)) self.old key.now }
     {
-        self.narrow(key, snapshots);
+        self.narrow(key, number, snapshots);
         self.settle(key);
     }
 
-    /// Forgets the versions of some keys that are not read. Takes no memory.
-    pub fn prune_all(&mut self, keys: &[Key], snapshots: &Snapshots)
-        ensures { self.new ≡ pruned_all (is_kept (needed snapshots.now)) self.old keys.now }
+    /// Forgets the versions of some keys that only a reader at this number read, which has gone. Takes no memory.
+    pub fn prune_all(&mut self, keys: &[Key], number: u64, snapshots: &Snapshots)
+        ensures { self.new ≡ pruned_all (stays number (needed snapshots.now)) self.old keys.now }
     {
         for key in keys {
-            self.prune(key, snapshots);
+            self.prune(key, number, snapshots);
         }
     }
 }

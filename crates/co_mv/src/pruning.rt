@@ -1,6 +1,6 @@
 //! Versions and installs that are forgotten, install after install.
 ghost use Rattle.std.specs.Prelude.{◌≡◌, ◌<◌, ◌≤◌, [], ℕ};
-ghost use Rattle.co_mv.specs.Versions.{is_kept};
+ghost use Rattle.co_mv.specs.Versions.{stays};
 ghost use Rattle.co_mv.specs.Kept.{needed, IsPruned, AreLeft};
 ghost use Rattle.co_mv.specs.Recents.{keys_at};
 
@@ -8,22 +8,23 @@ use crate::chains::Chains;
 use crate::recents::Recents;
 use crate::snapshots::Snapshots;
 
-/// Forgets the versions that are read no more, of the keys that were written by the installs after `from` and
-/// up to `to`. Takes no memory.
+/// Forgets the versions that only a reader at this number read, which has gone, of the keys that were written by
+/// the installs after `from` and up to `to`. Takes no memory.
 pub fn prune_window(
     chains: &mut Chains,
     recents: &Recents,
+    number: u64,
     from: u64,
     to: u64,
     snapshots: &Snapshots,
 )
-    ensures pruned { IsPruned (is_kept (needed snapshots.now)) recents.now from to chains.old chains.new }
+    ensures pruned { IsPruned (stays number (needed snapshots.now)) recents.now from to chains.old chains.new }
     ensures others { AreLeft recents.now from to chains.old chains.new }
 {
     let mut install = from;
     while install < to {
         install += 1;
-        chains.prune_all(recents.keys_at(install), snapshots);
+        chains.prune_all(recents.keys_at(install), number, snapshots);
     }
 }
 

@@ -1,7 +1,7 @@
 //! The numbers of installs at which records are read.
 ghost use Rattle.std.specs.Prelude.{◌≡◌, ◌==◌, ◌≤◌, nat_lt, not, length, max, OnOk};
 ghost use Rattle.std.specs.List.{list_any};
-ghost use Rattle.co_mv.specs.Versions.{sees, is_gone, is_kept};
+ghost use Rattle.co_mv.specs.Versions.{sees, is_gone, is_kept, stays};
 ghost use Rattle.co_mv.specs.Kept.{needed, held, stamp_of, entered, pinned, unpinned, greater, IsLeastHeldFrom, IsGreatestHeldBelow, IsNext};
 ghost use Rattle.co_state.specs.Table.{look, lesser};
 
@@ -151,6 +151,13 @@ impl Snapshots {
         ensures { result ≡ is_kept (needed self.now) version.now }
     {
         self.is_seen(version) && !self.is_gone(version)
+    }
+
+    /// Whether a version that was kept stays, once a reader at a number has gone.
+    pub fn stays(&self, version: &Version, number: u64) -> bool
+        ensures { result ≡ stays number (needed self.now) version.now }
+    {
+        version.is_apart_from(number) || self.is_kept(version)
     }
 
     /// The least number that records are read at and that is at or above this one, which is at most the number

@@ -1,6 +1,6 @@
 //! Versions of records.
 ghost use Rattle.std.specs.Prelude.{◌≡◌};
-ghost use Rattle.co_mv.specs.Versions.{sees};
+ghost use Rattle.co_mv.specs.Versions.{sees, is_apart, closed_by};
 
 use co_base::Value;
 
@@ -24,6 +24,22 @@ impl Version {
         match self.overwritten {
             None => self.written <= installs,
             Some(end) => self.written <= installs && installs < end,
+        }
+    }
+
+    /// Whether the version stays as it was read, once a reader at this number of installs has gone.
+    pub fn is_apart_from(&self, installs: u64) -> bool
+        ensures { result ≡ is_apart installs self.now }
+    {
+        !self.is_seen_at(installs) && (self.value.is_some() || self.written <= installs)
+    }
+
+    /// An install writes over the version, if none did before.
+    pub fn close(&mut self, install: u64)
+        ensures { self.new ≡ record self.old { overwritten = closed_by install self.old.overwritten } }
+    {
+        if self.overwritten.is_none() {
+            self.overwritten = Some(install);
         }
     }
 }

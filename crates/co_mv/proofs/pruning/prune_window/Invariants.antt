@@ -1,12 +1,12 @@
 use Rattle.co_mv.specs.Kept.{needed, IsPruned, AreLeft}
-use Rattle.co_mv.specs.Versions.{is_kept}
+use Rattle.co_mv.specs.Versions.{stays}
 use Rattle.std.proofs.Common.{◌≤◌, ◌-◌}
 use Rattle.co_mv.proofs.pruning.prune_window.Given as goal
 
 abbrev pub invariant-loop-install : goal.invariant-loop-install
 invariant-loop-install l = record {
   within : l.from ≤ l.install;
-  pruned : IsPruned (is_kept (needed l.snapshots)) l.recents l.from l.install l.initial.chains l.chains;
+  pruned : IsPruned (stays l.number (needed l.snapshots)) l.recents l.from l.install l.initial.chains l.chains;
   others : AreLeft l.recents l.from l.to l.initial.chains l.chains;
 }
 

@@ -1,9 +1,9 @@
 use Rattle.std.proofs.Common.{◌≡◌, drop}
 use Rattle.co_mv.specs.Chains.{pruned_all}
 use Rattle.co_mv.specs.Kept.{needed}
-use Rattle.co_mv.specs.Versions.{is_kept}
+use Rattle.co_mv.specs.Versions.{stays}
 use Rattle.co_mv.proofs.chains.Chains.prune_all.Given as goal
 
 abbrev pub invariant-loop-key : goal.invariant-loop-key
 invariant-loop-key l =
-    pruned_all (is_kept (needed l.snapshots)) l.self (drop l.key-index l.keys) ≡ pruned_all (is_kept (needed l.snapshots)) l.initial.self l.keys
+    pruned_all (stays l.number (needed l.snapshots)) l.self (drop l.key-index l.keys) ≡ pruned_all (stays l.number (needed l.snapshots)) l.initial.self l.keys
