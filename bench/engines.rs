@@ -1,6 +1,6 @@
 //! Three plain engines over std's collections, and the loads of `co_engine_rows`: what the proved engines are measured against. No contracts, no faults, no bounds on memory.
 //!
-//!     rustc -O bench/engines.rs && ./engines locking|validating|multiversion turns|ballots|dumps|staggered|held OPERATIONS TRANSACTIONS KEYS SPAN TOGETHER
+//!     rustc -O bench/engines.rs && ./engines locking|validating|multiversion turns|ballots|dumps|staggered|held|pinned OPERATIONS TRANSACTIONS KEYS SPAN TOGETHER
 //!
 //! It prints what `co_engine_rows` prints of a load; the digest covers every reply, row and blocker.
 
@@ -30,6 +30,12 @@ enum Command {
     Ballot(Txn),
     /// The records as they are kept, and what leads back.
     Dump,
+    /// The records are to stay as they are for a reader.
+    Pin(u32),
+    /// A reader looks at a range.
+    Look(u32, Key, Key),
+    /// A reader goes.
+    Unpin(u32),
 }
 
 enum Played {
@@ -40,6 +46,8 @@ enum Played {
     Done,
     Stale(Option<Key>),
     Dumped(Vec<(Key, Value)>, Vec<(Key, Option<Value>)>),
+    Pinned,
+    NotPinned,
 }
 
 #[derive(Default)]
@@ -63,6 +71,8 @@ struct Engine {
     readers: HashMap<Key, Vec<Txn>>,
     wide: BTreeSet<(Key, Key, Txn)>,
     snapshots: BTreeMap<u64, usize>,
+    /// How many installs each reader that stays sees.
+    pins: HashMap<u32, u64>,
     /// The last install of each key that was written.
     lasts: BTreeMap<Key, u64>,
 }
@@ -87,6 +97,7 @@ impl Engine {
             readers: HashMap::new(),
             wide: BTreeSet::new(),
             snapshots: BTreeMap::new(),
+            pins: HashMap::new(),
             lasts: BTreeMap::new(),
         }
     }
@@ -245,12 +256,38 @@ impl Engine {
             }
         }
         if self.kind == Kind::Mv {
-            let count = self.snapshots.get_mut(&own.snapshot).unwrap();
-            *count -= 1;
-            if *count == 0 {
-                self.snapshots.remove(&own.snapshot);
-            }
+            self.release(own.snapshot);
         }
+    }
+
+    /// One reader of a snapshot less.
+    fn release(&mut self, snapshot: u64) {
+        let count = self.snapshots.get_mut(&snapshot).unwrap();
+        *count -= 1;
+        if *count == 0 {
+            self.snapshots.remove(&snapshot);
+        }
+    }
+
+    /// A reader comes that stays; its number is new.
+    fn pin(&mut self, id: u32) -> Played {
+        self.pins.insert(id, self.installs);
+        *self.snapshots.entry(self.installs).or_default() += 1;
+        Played::Pinned
+    }
+
+    fn look(&self, id: u32, lo: Key, hi: Key) -> Played {
+        let Some(snapshot) = self.pins.get(&id) else {
+            return Played::NotPinned;
+        };
+        let seen = self.chains.range(lo..=hi);
+        Played::Rows(seen.filter_map(|(key, chain)| Some((key.clone(), Engine::version(chain, *snapshot)?.clone()))).collect())
+    }
+
+    fn unpin(&mut self, id: u32) -> Played {
+        let snapshot = self.pins.remove(&id).unwrap();
+        self.release(snapshot);
+        Played::Done
     }
 
     fn install(&mut self, t: Txn) -> Played {
@@ -325,6 +362,9 @@ impl Engine {
             Command::Cast(t) => self.cast(t),
             Command::Install(t) => self.install(t),
             Command::Drop(t) => self.drop_txn(t),
+            Command::Pin(id) => self.pin(id),
+            Command::Look(id, lo, hi) => self.look(id, lo, hi),
+            Command::Unpin(id) => self.unpin(id),
         }
     }
 }
@@ -385,13 +425,27 @@ fn held(made: &mut Vec<Command>, first: u32, end: u32, span: u32, other: Txn) {
     made.extend([Command::Write(other, key(first), value(1)), Command::Cast(other), Command::Install(other)]);
 }
 
-/// The commands of a load: operations of a group in turn, or reads of the first key with a write and an install of another transaction behind each, or what is held.
+/// A reader comes that stays, and each transaction of a group writes a key, nine of ten times one of the first, and is installed.
+fn pinned(made: &mut Vec<Command>, picks: &mut Picks, first: u32, end: u32, keys: u32, span: u32) {
+    made.push(Command::Pin(first));
+    for t in first..end {
+        let bound = if picks.below(10) == 0 { keys } else { span };
+        let place = picks.below(bound);
+        made.extend([Command::Write(t, key(place), value(picks.below(100))), Command::Cast(t), Command::Install(t)]);
+    }
+}
+
+/// The commands of a load: operations of a group in turn, or reads of the first key with a write and an install of another transaction behind each, or what is held, or readers that stay beside installs.
 fn commands(shape: &str, [operations, transactions, keys, span, together]: [u32; 5]) -> Vec<Command> {
     let (mut picks, mut made) = (Picks::new(1), Vec::new());
     for group in 0..transactions.div_ceil(together) {
         let (first, end) = (group * together, min((group + 1) * together, transactions));
         if shape == "held" {
             held(&mut made, first, end, span, transactions + first);
+            continue;
+        }
+        if shape == "pinned" {
+            pinned(&mut made, &mut picks, first, end, keys, span);
             continue;
         }
         if shape == "staggered" {
@@ -411,6 +465,12 @@ fn commands(shape: &str, [operations, transactions, keys, span, together]: [u32;
         }
         for t in first..end {
             made.extend([Command::Cast(t), Command::Install(t)]);
+        }
+    }
+    if shape == "pinned" {
+        let look = |id| Command::Look(id, key(0), key(min(span, keys) - 1));
+        for id in (0..transactions).step_by(together as usize) {
+            made.extend([look(id), Command::Unpin(id), look(id)]);
         }
     }
     made
@@ -443,6 +503,8 @@ fn told(played: &Played) -> String {
         Played::Done => "done".into(),
         Played::Stale(Some(key)) => format!("stale {}", text(key)),
         Played::Stale(None) => "not stale".into(),
+        Played::Pinned => "pinned".into(),
+        Played::NotPinned => "not pinned".into(),
         Played::Dumped(rows, undos) => undos.iter().fold(rows_told(rows) + " undos", |told, (key, value)| {
             told + " " + text(key) + " " + &value.as_ref().map_or("missing".into(), |it| format!("got {}", text(it)))
         }),

@@ -6,6 +6,7 @@ use crate::commands::command;
 use crate::kept::Keeps;
 use crate::rows::{RowFault, cut, number_of, record_of, txn_of};
 use crate::setups::{is_setup, rows_of};
+use crate::stays::{Stays, stay_of};
 use crate::texts::{put_dumped, put_key, put_number, put_seen};
 use co_base::{Key, Kind, Txn, Value};
 use co_engine::{Command, Engine, Seen};
@@ -128,8 +129,8 @@ pub(crate) fn put_dump<E: Engine>(
 /// Appends what a row tells. It is a call, or one of these questions: `stale NUMBER` asks for the least key that was overwritten
 /// since the transaction read it, `sets NUMBER` how many ranges it read and how many keys it wrote, `dump` for the records as they are kept
 /// and what leads back, `kept KEY` for what is kept of a key; `thousand NUMBER VALUE` is a thousand transactions, from this number on,
-/// that each write `x` and are installed.
-fn put_told<E: Engine + Keeps>(
+/// that each write `x` and are installed. `pin ID`, `look ID FROM TO` and `unpin ID` are those of a reader that stays.
+fn put_told<E: Engine + Keeps + Stays>(
     alloc: Global,
     engine: &mut E,
     row: &[u8],
@@ -142,12 +143,13 @@ fn put_told<E: Engine + Keeps>(
         b"dump" => Ok(put_dump(alloc, engine, into)?),
         b"kept" => Ok(engine.put_kept(alloc, rest, into)?),
         b"thousand" => put_thousand(alloc, engine, rest, into),
+        b"pin" | b"look" | b"unpin" => Ok(engine.put_stayed(alloc, &stay_of(alloc, row)?, into)?),
         _ => put_call(alloc, engine, row, into),
     }
 }
 
 /// Appends what calls and questions tell, a line each.
-fn put_lines<E: Engine + Keeps>(
+fn put_lines<E: Engine + Keeps + Stays>(
     alloc: Global,
     engine: &mut E,
     lines: &[&[u8]],
@@ -163,7 +165,7 @@ fn put_lines<E: Engine + Keeps>(
 }
 
 /// Appends what calls and questions tell of an engine that begins so, a line each.
-pub(crate) fn put_told_by_asks<E: Engine + Keeps + Drop>(
+pub(crate) fn put_told_by_asks<E: Engine + Keeps + Stays + Drop>(
     alloc: Global,
     kind: Kind,
     voted: &[Prepared],

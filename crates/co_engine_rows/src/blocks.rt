@@ -8,6 +8,7 @@ use crate::plays::put_told_by_play;
 use crate::random::put_random_rows;
 use crate::rows::{RowFault, cut, kind_of};
 use crate::setups::{is_setup, voted_of};
+use crate::stays::Stays;
 use co_any::AnyEngine;
 use co_base::Kind;
 use co_engine::Engine;
@@ -68,7 +69,7 @@ fn put_played(
 }
 
 /// Appends what rows come to on another engine, where that is not the same.
-fn put_other<E: Engine + Keeps + Drop>(
+fn put_other<E: Engine + Keeps + Stays + Drop>(
     alloc: Global,
     name: &[u8],
     mode: Mode,
@@ -164,7 +165,7 @@ fn told_by_kind(
 }
 
 /// Appends what rows come to on an engine, a line each. No engine begins with prepared transactions that are in conflict.
-fn put_told<E: Engine + Keeps + Drop>(
+fn put_told<E: Engine + Keeps + Stays + Drop>(
     alloc: Global,
     mode: Mode,
     kind: Kind,
@@ -185,7 +186,7 @@ fn put_told<E: Engine + Keeps + Drop>(
 }
 
 /// What rows come to on an engine, a line each.
-fn told<E: Engine + Keeps + Drop>(
+fn told<E: Engine + Keeps + Stays + Drop>(
     alloc: Global,
     mode: Mode,
     kind: Kind,

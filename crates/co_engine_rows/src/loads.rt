@@ -1,6 +1,7 @@
 //! Loads: calls of any number on records of any number, to be counted and measured.
 use crate::picks::Picks;
 use crate::rows::{RowFault, cut, number_of};
+use crate::stays::Stay;
 use co_base::{BaseFault, Key, Range, Rows, Sequence, Txn, Value};
 use co_engine::Command;
 use co_state::RecordMap;
@@ -21,6 +22,10 @@ pub(crate) enum Shape {
     /// Each transaction of a group scans keys from its own on, or writes its own where a scan has no key. Then another one is asked
     /// to write the first and the last of them, and the holder is dropped; at last it writes the first key of the group and is installed.
     Held,
+    /// A reader pins the installed records before each group, under the number of its first transaction. Then each transaction writes
+    /// a key, nine of ten times one of the first that a scan reads, and is installed. At the end each reader looks at these
+    /// first keys and goes, and finds nothing any more.
+    Pinned,
 }
 
 /// How much is to be done.
@@ -49,6 +54,8 @@ pub(crate) enum Step {
     Ballot(Txn),
     /// The records as they are kept.
     Dump,
+    /// A call of a reader that stays.
+    Stay(Stay),
 }
 
 /// The shape that a word names.
@@ -59,6 +66,7 @@ fn shape_of(word: &[u8]) -> Result<Shape, RowFault> {
         b"dumps" => Ok(Shape::Dumps),
         b"staggered" => Ok(Shape::Staggered),
         b"held" => Ok(Shape::Held),
+        b"pinned" => Ok(Shape::Pinned),
         _ => Err(RowFault::Word),
     }
 }
@@ -117,12 +125,17 @@ fn write(alloc: Global, txn: Txn, place: u32, number: u32) -> Result<Command, Ba
     Ok(Command::Write { txn, key, value })
 }
 
-/// A scan from the key of a number on.
-fn scan(alloc: Global, load: &Load, txn: Txn, place: u32) -> Result<Command, BaseFault> {
+/// The keys from the one of a number on that a scan reads.
+fn range(alloc: Global, load: &Load, place: u32) -> Result<Range, BaseFault> {
     let last = load.keys.saturating_sub(1);
     let end = place.saturating_add(load.span.saturating_sub(1)).min(last);
     let lo = key(alloc, place)?;
-    let range = Range::new(lo, key(alloc, end)?)?;
+    Range::new(lo, key(alloc, end)?)
+}
+
+/// A scan from the key of a number on.
+fn scan(alloc: Global, load: &Load, txn: Txn, place: u32) -> Result<Command, BaseFault> {
+    let range = range(alloc, load, place)?;
     Ok(Command::Scan { txn, range })
 }
 
@@ -240,6 +253,43 @@ fn add_held(
     end(other, steps)
 }
 
+/// A key, nine of ten times one of the first that a scan reads.
+fn hot(picks: &mut Picks, load: &Load) -> u32 {
+    match picks.below(10) {
+        0 => pick(picks, load.keys),
+        _ => pick(picks, load.span),
+    }
+}
+
+/// A reader pins, and each transaction of a group writes a key and is installed.
+fn add_pinned(
+    alloc: Global,
+    picks: &mut Picks,
+    load: &Load,
+    first: u32,
+    last: u32,
+    steps: &mut Sequence<Step>,
+) -> Result<(), BaseFault> {
+    steps.push(Step::Stay(Stay::Pin(first)))?;
+    for t in first..last {
+        let place = hot(picks, load);
+        steps.push(Step::Call(write(alloc, Txn(t), place, pick(picks, 100))?))?;
+        end(t, steps)?;
+    }
+    Ok(())
+}
+
+/// Each reader looks at the first keys, goes, and looks again.
+fn add_looks(alloc: Global, load: &Load, steps: &mut Sequence<Step>) -> Result<(), BaseFault> {
+    for group in 0..load.transactions.div_ceil(load.together.max(1)) {
+        let id = group.saturating_mul(load.together);
+        steps.push(Step::Stay(Stay::Look(id, range(alloc, load, 0)?)))?;
+        steps.push(Step::Stay(Stay::Unpin(id)))?;
+        steps.push(Step::Stay(Stay::Look(id, range(alloc, load, 0)?)))?;
+    }
+    Ok(())
+}
+
 /// What is asked before the transactions of a group vote.
 fn add_questions(
     shape: Shape,
@@ -254,7 +304,7 @@ fn add_questions(
             }
         }
         Shape::Dumps => steps.push(Step::Dump)?,
-        Shape::Turns | Shape::Staggered | Shape::Held => {}
+        Shape::Turns | Shape::Staggered | Shape::Held | Shape::Pinned => {}
     }
     Ok(())
 }
@@ -271,6 +321,7 @@ fn add_group(
     match load.shape {
         Shape::Staggered => add_staggered(alloc, load, first, last, steps)?,
         Shape::Held => return add_held(alloc, load, first, last, steps),
+        Shape::Pinned => return add_pinned(alloc, picks, load, first, last, steps),
         _ => add_operations(alloc, picks, load, first, last, steps)?,
     }
     add_questions(load.shape, first, last, steps)?;
@@ -288,6 +339,9 @@ pub(crate) fn steps(alloc: Global, load: &Load) -> Result<Sequence<Step>, BaseFa
         let first = group.saturating_mul(load.together);
         let last = first.saturating_add(load.together).min(load.transactions);
         add_group(alloc, &mut picks, load, first, last, &mut steps)?;
+    }
+    if matches!(load.shape, Shape::Pinned) {
+        add_looks(alloc, load, &mut steps)?;
     }
     Ok(steps)
 }

@@ -7,7 +7,7 @@
 //! played, and the first one comes to `not free`.
 //!
 //! `load locking SHAPE OPERATIONS TRANSACTIONS KEYS SPAN TOGETHER` has no rows: it makes so many calls over so many records, as its
-//! shape says (`turns`, `ballots`, `dumps`, `staggered` or `held`), and what it comes to is told by numbers and a digest. Loads of any size are
+//! shape says (`turns`, `ballots`, `dumps`, `staggered`, `held` or `pinned`), and what it comes to is told by numbers and a digest. Loads of any size are
 //! measured outside the gate.
 //!
 //! Each row is written as it stands, with what it comes to at the engine of the kind. The plain engine and the engine of
@@ -27,6 +27,7 @@ mod plays;
 mod random;
 mod rows;
 mod setups;
+mod stays;
 mod texts;
 
 use crate::blocks::put_block;

@@ -2,6 +2,7 @@
 use crate::asks::call;
 use crate::loads::{Step, load_of, rows, steps};
 use crate::rows::RowFault;
+use crate::stays::{Stay, Stays};
 use crate::texts::{put_dumped, put_key, put_number, put_seen};
 use co_base::{Key, Kind, Rows, Sequence};
 use co_engine::{Dump, Engine, Seen};
@@ -19,10 +20,19 @@ enum Told {
     Stale(Option<Key>),
     /// The records as they are kept, and what leads back.
     Dumped(Dump),
+    /// What a call of a reader that stays came to, as text.
+    Stayed(Vec<u8>),
+}
+
+/// Makes the call of a reader that stays and gives what it came to.
+fn stayed<E: Stays>(alloc: Global, engine: &mut E, stay: &Stay) -> Result<Told, AllocError> {
+    let mut text = Vec::new(alloc);
+    engine.put_stayed(alloc, stay, &mut text)?;
+    Ok(Told::Stayed(text))
 }
 
 /// Takes a step and gives what it came to.
-fn take<E: Engine>(alloc: Global, engine: &mut E, step: &Step) -> Result<Told, AllocError> {
+fn take<E: Engine + Stays>(alloc: Global, engine: &mut E, step: &Step) -> Result<Told, AllocError> {
     match step {
         Step::Call(command) => Ok(Told::Called(call(alloc, engine, command)?)),
         Step::Ballot(t) => match engine.stale(*t) {
@@ -30,11 +40,12 @@ fn take<E: Engine>(alloc: Global, engine: &mut E, step: &Step) -> Result<Told, A
             None => Ok(Told::Stale(None)),
         },
         Step::Dump => Ok(Told::Dumped(engine.dump(alloc)?)),
+        Step::Stay(stay) => stayed(alloc, engine, stay),
     }
 }
 
 /// Takes steps on an engine with these records, and gives what each came to.
-fn played_on<E: Engine + Drop>(
+fn played_on<E: Engine + Stays + Drop>(
     alloc: Global,
     kind: Kind,
     rows: Rows,
@@ -83,6 +94,7 @@ fn put_told(told: &Told, into: &mut Vec<u8>) -> Result<(), AllocError> {
         Told::Called(None) => into.extend_from_slice(b"done"),
         Told::Stale(key) => put_key(key.as_ref(), into),
         Told::Dumped(dump) => put_dumped(dump, into),
+        Told::Stayed(text) => into.extend_from_slice(text),
     }
 }
 

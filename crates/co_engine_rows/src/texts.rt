@@ -1,6 +1,6 @@
 //! Answers as text.
 use co_base::{Key, Reply, Row, Value, Written};
-use co_engine::{Dump, Played, Seen};
+use co_engine::{Dump, Pinned, Played, Seen};
 use itoa::Buffer;
 use std::alloc::AllocError;
 
@@ -22,7 +22,7 @@ pub(crate) fn put_text(text: &[u8], into: &mut Vec<u8>) -> Result<(), AllocError
 }
 
 /// Appends records: the key and the value of each.
-fn put_rows(rows: &[Row], into: &mut Vec<u8>) -> Result<(), AllocError> {
+pub(crate) fn put_rows(rows: &[Row], into: &mut Vec<u8>) -> Result<(), AllocError> {
     into.extend_from_slice(b"rows")?;
     for row in rows {
         put_text(row.key.text(), into)?;
@@ -69,6 +69,15 @@ pub(crate) fn put_seen(seen: &Seen, into: &mut Vec<u8>) -> Result<(), AllocError
             into.extend_from_slice(b"blocked")?;
             put_number(u64::from(t.0), into)
         }
+    }
+}
+
+/// Appends what a pin came to.
+pub(crate) fn put_pinned(pinned: &Pinned, into: &mut Vec<u8>) -> Result<(), AllocError> {
+    match pinned {
+        Pinned::Kept => into.extend_from_slice(b"pinned"),
+        Pinned::Taken => into.extend_from_slice(b"taken"),
+        Pinned::NotMv => into.extend_from_slice(b"no versions"),
     }
 }
 
