@@ -6,7 +6,7 @@ use Rattle.co_top.specs.Telling.{IsTextPut}
 use Rattle.co_top.specs.declared.status.Status.{Status}
 use Rattle.co_top.specs.declared.status.Status.TheVariants as status
 
-pub written : (input held : List ℕ) (Has : List ℕ → Type 0) (text_of : {i : List ℕ} → Has i → List ℕ) (h : Has input) (before told : Option (List ℕ)) (result : Result (Unit {0}) Status) → before ≡ Some held → IsTextPut (text_of h) before told result → IsFollowedEnd input Has text_of held told (status_of result)
+pub written : (input held : List ℕ) (Has : List ℕ → Type 0) (text_of : (i : List ℕ) → Has i → List ℕ) (h : Has input) (before told : Option (List ℕ)) (result : Result (Unit {0}) Status) → before ≡ Some held → IsTextPut (text_of input h) before told result → IsFollowedEnd input Has text_of held told (status_of result)
 written input held Has text_of h before told (Ok u) same put = Written h (put held same) refl
 written input held Has text_of h before told (Err status.Write) same put = let p = put held same in CutOff h p.0 p.1 (inl refl)
 written input held Has text_of h before told (Err status.Memory) same put = let p = put held same in CutOff h p.0 p.1 (inr refl)

@@ -9,7 +9,7 @@ use Rattle.co_top.specs.declared.status.Status.TheVariants as status
 use Rattle.co_top.proofs.Completing.{never_stopped}
 use Rattle.co_top.proofs.Reading.{head_is_some, head_is_short}
 
-module _ (input : List ℕ) (Has : List ℕ → Type 0) (text_of : {i : List ℕ} → Has i → List ℕ) (held : List ℕ) (told : Option (List ℕ)) (a b c d : ℕ) (f : IsUnstopped input a b c d) (ended : Status) (read : ended ≡ status.Read → HasRisen a b) (write : ended ≡ status.Write → HasRisen c d) where
+module _ (input : List ℕ) (Has : List ℕ → Type 0) (text_of : (i : List ℕ) → Has i → List ℕ) (held : List ℕ) (told : Option (List ℕ)) (a b c d : ℕ) (f : IsUnstopped input a b c d) (ended : Status) (read : ended ≡ status.Read → HasRisen a b) (write : ended ≡ status.Write → HasRisen c d) where
   -- the source failed, or there was no memory
 
   wanting : (s : Status) → ended ≡ s → (s ≡ status.Read) ⊎ (s ≡ status.Memory) → (ended ≡ status.Done) ⊎ (ended ≡ status.Memory)

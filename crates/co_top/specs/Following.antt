@@ -70,9 +70,9 @@ IsFollowed takes stands_for head s0 text now home w ask seen (Err why) = IsOver 
 
 -- How the command ends, over an input and a sink that are told: the text of what was found at the end was written whole, or a front of it where the sink failed or there was no memory; or nothing was,
 -- since the head is none, a line behind it was not done, the source failed or there was no memory.
-pub data IsFollowedEnd (input : List ℕ) (Has : List ℕ → Type 0) (text_of : {i : List ℕ} → Has i → List ℕ) (held : List ℕ) (told : Option (List ℕ)) (ended : Status) : Type 0 where
-  Written : (h : Has input) → told ≡ Some (held ++ text_of h) → ended ≡ status.Done → IsFollowedEnd input Has text_of held told ended
-  CutOff : (h : Has input) (count : ℕ) → told ≡ Some (held ++ take count (text_of h)) → (ended ≡ status.Write) ⊎ (ended ≡ status.Memory) → IsFollowedEnd input Has text_of held told ended
+pub data IsFollowedEnd (input : List ℕ) (Has : List ℕ → Type 0) (text_of : (i : List ℕ) → Has i → List ℕ) (held : List ℕ) (told : Option (List ℕ)) (ended : Status) : Type 0 where
+  Written : (h : Has input) → told ≡ Some (held ++ text_of input h) → ended ≡ status.Done → IsFollowedEnd input Has text_of held told ended
+  CutOff : (h : Has input) (count : ℕ) → told ≡ Some (held ++ take count (text_of input h)) → (ended ≡ status.Write) ⊎ (ended ≡ status.Memory) → IsFollowedEnd input Has text_of held told ended
   Unwritten : told ≡ Some held → IsUnreached input ended → IsFollowedEnd input Has text_of held told ended
 
 -- the statuses of such a command
@@ -94,7 +94,7 @@ pub record IsUnstopped (input : List ℕ) (source_old source_new out_old out_new
   pub few : (fresh : RanFresh input) → IsAtLimit fresh.ran → ⊥
 
 -- How the command ends, over what is seen of the source and the sink; and where nothing hinders it, it is done, or there is no memory.
-pub record FollowsAs (Has : List ℕ → Type 0) (text_of : {i : List ℕ} → Has i → List ℕ) (source_old source_new : SourceView) (out_old out_new : SinkView) (ended : Status) : Type 0 where
+pub record FollowsAs (Has : List ℕ → Type 0) (text_of : (i : List ℕ) → Has i → List ℕ) (source_old source_new : SourceView) (out_old out_new : SinkView) (ended : Status) : Type 0 where
   pub end : (input held : List ℕ) → source_old.left ≡ Some input → out_old.told ≡ Some held → IsFollowedEnd input Has text_of held out_new.told ended
   pub complete : (input held : List ℕ) → source_old.left ≡ Some input → out_old.told ≡ Some held →
       IsUnstopped input source_old.faults source_new.faults out_old.faults out_new.faults → (ended ≡ status.Done) ⊎ (ended ≡ status.Memory)

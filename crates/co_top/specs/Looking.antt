@@ -38,8 +38,8 @@ looked_words (looked.Rows rows) = reply_words (reply.Rows rows)
 abbrev pub looked_text : Looked → List ℕ
 looked_text seen = spaced (looked_words seen) ++ 10 ∷ []
 
-abbrev pub text_of_looked : (ask : Ask) → {input : List ℕ} → HasLooked ask input → List ℕ
-text_of_looked ask h = looked_text h.0
+abbrev pub text_of_looked : (ask : Ask) (input : List ℕ) → HasLooked ask input → List ℕ
+text_of_looked ask input h = looked_text h.0
 
 -- the command `look`
 abbrev pub LooksAs : Ask → SourceView → SourceView → SinkView → SinkView → Status → Type 0

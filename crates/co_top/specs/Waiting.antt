@@ -39,8 +39,8 @@ pub record HasWaits (input : List ℕ) : Type 0 where
   pub is : IsKnotOf (end_of fresh.ran) waits knot
 
 -- what is written of them
-abbrev pub text_of_waits : {input : List ℕ} → HasWaits input → List ℕ
-text_of_waits h = waits_text h.waits h.knot
+abbrev pub text_of_waits : (input : List ℕ) → HasWaits input → List ℕ
+text_of_waits input h = waits_text h.waits h.knot
 
 -- the command `waits`
 abbrev pub WaitsAs : SourceView → SourceView → SinkView → SinkView → Status → Type 0

@@ -8,7 +8,8 @@ use Rattle.co_base.specs.Order.{key_cmp}
 use Rattle.co_schedule.specs.Places.{is_text}
 use Rattle.co_schedule.proofs.Numbers.{and_true, both, value_of-decimal}
 use Rattle.co_schedule.proofs.Texts.{IsText-is_text}
-use Rattle.co_top.specs.Command.{AsksLook, AsksNothing, are_bounds, is_argument, ask_for}
+use Rattle.co_top.specs.Command.{AsksLook, AsksNothing, are_bounds, is_argument}
+use Rattle.co_top.specs.Sights.{ask_for}
 use Rattle.co_top.proofs.words.look_of.Goals as goal
 
 pub returns-in-Some-Some : goal.returns-in-Some-Some
