@@ -186,7 +186,7 @@ module _ {E : Type 0} (takes : Kind → Type 0) (stands_for : E → EngineState 
   read_behind e after f = λ t q. let r = f (p.done.left t q).0 (p.is_left t q) in (r.0, r.1, r.2)
 
   -- one more line was played
-  pub plays_on : (e : Event) (line : HasLine head e) (left_after told_after : Option (List ℕ)) (home_after : HomeView) (w_after : World E) (reader_after : Lines) → IsReadBehind head text p.done.events p.done.left left_after e →
+  unfoldable pub plays_on : (e : Event) (line : HasLine head e) (left_after told_after : Option (List ℕ)) (home_after : HomeView) (w_after : World E) (reader_after : Lines) → IsReadBehind head text p.done.events p.done.left left_after e →
       HasRead (suc (suc (length p.done.events))) reader_after → IsToldOf takes stands_for (run (lines p.done.events) s0) (length p.done.events + 2) e told told_after home_after w_after (Ok tt) →
       IsPlaying takes stands_for head s0 text held told_after home_after w_after (number + 1) reader_after left_after
   plays_on e line left_after told_after home_after w_after reader_after read has o =
@@ -199,7 +199,7 @@ module _ {E : Type 0} (takes : Kind → Type 0) (stands_for : E → EngineState 
       }
 
   -- there is no further line
-  pub plays_out : (now : Option (List ℕ)) → IsStreamedBehind head text now p.done.events p.done.left → (after : Option (List ℕ)) → ((t : List ℕ) → ahead ≡ Some t → IsEventRead head (length p.done.events) t after (Ok None)) → IsOver takes stands_for head s0 text now held told home w (Ok (number - 1))
+  unfoldable pub plays_out : (now : Option (List ℕ)) → IsStreamedBehind head text now p.done.events p.done.left → (after : Option (List ℕ)) → ((t : List ℕ) → ahead ≡ Some t → IsEventRead head (length p.done.events) t after (Ok None)) → IsOver takes stands_for head s0 text now held told home w (Ok (number - 1))
   plays_out now streamed after f = (p.done, streamed, p.stands, λ t q. (f (p.done.left t q).0 (p.is_left t q)).1.0, let c = p.counted in omega (arith, c))
 
   stops : (now : Option (List ℕ)) → IsStreamedBehind head text now p.done.events p.done.left → (why : Status) (after : Option (List ℕ)) → ((t : List ℕ) → ahead ≡ Some t → IsEventRead head (length p.done.events) t after (Err why)) → HasStopped takes stands_for head s0 text now held told home w why

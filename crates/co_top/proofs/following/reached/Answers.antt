@@ -1,4 +1,4 @@
-use Rattle.std.proofs.Common.{None, Option, Ok, Err, List, ℕ, ap, subst}
+use Rattle.std.proofs.Common.{None, Option, Ok, Err, List, [], ℕ, refl, ap, subst}
 use Rattle.co_plain.specs.Opening.{opened}
 use Rattle.co_plain.specs.Runs.{run, lines}
 use Rattle.co_trial.specs.Calm.{calm_seen}
@@ -6,6 +6,9 @@ use Rattle.co_outside.specs.HomeMemory.{memory_file}
 use Rattle.co_top.specs.Following.{IsFollowed}
 use Rattle.co_top.proofs.Followed.{calm_count, opening_memory, memory_unreached, memory_own, reached_by, unreached_by}
 use Rattle.co_top.proofs.Laws.{ready}
+use Rattle.co_top.proofs.Sights.{sees_head_if}
+use Rattle.co_top.specs.Sights.{SeesIf}
+use Rattle.co_top.specs.declared.status.Status.TheVariants as status
 use Rattle.co_top.proofs.following.reached.Goals as goal
 
 pub follow_lines-requires-clause-stands : goal.follow_lines-requires-clause-stands
@@ -53,3 +56,13 @@ returns-clause-unreached g c = λ input l.
     (g.S.Source.left c.follow_lines.new.source) (calm_seen c.follow_lines.new.home.memory) c.follow_lines.new.world c.in-Err.status c.in-Err.ensures.own
     (subst (λ (a : Option (List ℕ)). IsFollowed g.E.Engine.takes g.E.Engine.stands_for head s0 a (g.S.Source.left c.follow_lines.new.source) (calm_seen c.follow_lines.new.home.memory) c.follow_lines.new.world c.args.ask.now c.follow_lines.new.seen (Err c.in-Err.status)) read.2
     (c.in-Err.ensures.over s0 at.stands (ready head at.found_member at.found_coord at.may)))
+
+pub returns-in_err-seen-clause-unreached : goal.returns-in_err-seen-clause-unreached
+returns-in_err-seen-clause-unreached g c = λ input l. memory_unreached input c.from_residual-in_err-seen.result status.Memory c.from_residual-in_err-seen.ensures refl
+
+pub returns-in_err-seen-clause-own : goal.returns-in_err-seen-clause-own
+returns-in_err-seen-clause-own g c = memory_own c.from_residual-in_err-seen.result status.Memory c.from_residual-in_err-seen.ensures refl
+
+pub follow_lines-requires-clause-seen : goal.follow_lines-requires-clause-seen
+follow_lines-requires-clause-seen g c = λ s0 r.
+    subst (λ n. SeesIf n s0 [] c.args.ask.now c.in_ok-seen.seen) c.len.ensures (sees_head_if c.len.result s0 c.args.ask.now c.in_ok-seen.seen c.requires.ask (c.in_ok-seen.ensures s0 r))
