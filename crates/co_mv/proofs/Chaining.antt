@@ -6,12 +6,14 @@ use Rattle.std.proofs.lemmas.Cmp.{nat_list_cmp_total}
 use Rattle.co_base.specs.Order.{key_cmp}
 use Rattle.co_base.specs.declared.written.Written.{Written}
 use Rattle.co_state.specs.Keys.{same_key}
+use Rattle.co_mv.specs.declared.snapshots.Snapshots.{Snapshots}
 use Rattle.co_mv.specs.declared.version.Version.{Version}
 use Rattle.co_mv.specs.Chains.{Chains, chain_in, chain_of, laid, rewritten, rewritten_all, narrowed_in, narrowed, settled, pruned, pruned_all}
-use Rattle.co_mv.specs.Kept.{IsPruned, AreLeft}
+use Rattle.co_mv.specs.Kept.{IsPruned, AreLeft, WereKept, WereAllKept}
 use Rattle.co_mv.specs.Recents.{Recents, keys_at, has_key}
 use Rattle.co_mv.specs.Versions.{later, last_change, closed, with_write}
 use Rattle.co_mv.proofs.Needing.{Each, filter-within}
+use Rattle.co_mv.proofs.Ordering.{were_filter}
 use Rattle.co_mv.proofs.Versioning.{key_symm}
 use Rattle.co_state.proofs.Ties.{tie}
 
@@ -90,6 +92,18 @@ chain-pruned_all keep m (k ∷ ks) q = chain-pruned_all keep (pruned keep m k) k
         ap (λ vs. if has_key ks q then filter keep vs else vs) here ∙ twice (has_key ks q) (chain_of m q)
     by false t =
         ap (λ vs. if has_key ks q then filter keep vs else vs) (chain-pruned keep m k q ∙ ap (λ b. cond b (filter keep (chain_of m k)) (chain_of m q)) (key_symm q k ∙ t))
+
+-- ---- what was kept before
+pub were_pruned : (s : Snapshots) (n : ℕ) (keep : Version → Bool) (m : Chains) (k : List ℕ) → WereAllKept s n m → WereAllKept s n (pruned keep m k)
+were_pruned s n keep m k w q = subst (WereKept s n) (sym (chain-pruned keep m k q)) (by (same_key q k))
+  where
+    by : (b : Bool) → WereKept s n (cond b (filter keep (chain_of m k)) (chain_of m q))
+    by true = were_filter s n keep (chain_of m k) (w k)
+    by false = w q
+
+pub were_pruned_all : (s : Snapshots) (n : ℕ) (keep : Version → Bool) (m : Chains) (keys : List (List ℕ)) → WereAllKept s n m → WereAllKept s n (pruned_all keep m keys)
+were_pruned_all s n keep m [] w = w
+were_pruned_all s n keep m (k ∷ ks) w = were_pruned_all s n keep (pruned keep m k) ks (were_pruned s n keep m k w)
 
 -- ---- a window of installs
 pub pruned_start : (keep : Version → Bool) (recents : Recents) (from : ℕ) (m : Chains) → IsPruned keep recents from from m m

@@ -10,11 +10,11 @@ use Rattle.co_state.specs.Table.{look, put, without}
 use Rattle.co_state.proofs.Tables.{look-put, look-without}
 use Rattle.co_mv.specs.declared.archive.Archive.{Archive}
 use Rattle.co_mv.specs.declared.snapshots.Snapshots.{Snapshots}
-use Rattle.co_mv.specs.Kept.{held, needed, IsHeld, IsNeeded, IsNext, IsReleased, IsGreatestHeld, IsPruned, IsNarrowed, Keeps}
+use Rattle.co_mv.specs.Kept.{held, needed, IsHeld, IsNeeded, IsNext, IsReleased, IsGreatestHeld, WereAllKept, IsPruned, IsNarrowed, Keeps}
 use Rattle.co_mv.specs.Versions.{stays}
 use Rattle.co_mv.specs.Recents.{Recents, keys_at, keys_in}
 use Rattle.co_mv.proofs.Archiving.{Noted}
-use Rattle.co_mv.proofs.Releasing.{Ends, StayKept, stay_kept_above, stay_kept_below, keeps_released}
+use Rattle.co_mv.proofs.Releasing.{Ends, were_all_kept, StayKept, stay_kept_above, stay_kept_below, keeps_released}
 use Rattle.co_mv.proofs.Stamping.{some_held, not_held}
 use Rattle.co_mv.proofs.Chaining.{last_or}
 use Rattle.co_mv.proofs.Needing.{tied, ties-itself}
@@ -113,7 +113,7 @@ noted_none a n ws e = record {
 pub keeps_narrowed : (a b : Archive) (base : Records) (is : List Install) (s : Snapshots) (m next before : ℕ) (window : ℕ × ℕ) → IsReleased a.snapshots s m → IsNext s m next → IsGreatestHeld s m before
     → (window ≡ (before, m)) ⊎ (window ≡ (m, next)) → IsNarrowed m window.0 window.1 (record a { snapshots = s }) b → Keeps a base is → Keeps b base is
 keeps_narrowed a b base is s m next before window r after earlier w n k =
-    keeps_released a b base is s m window.0 window.1 n.snapshots_stay r (by w) n.pruned
+    keeps_released a b base is s m window.0 window.1 n.snapshots_stay r (by w) (n.pruned (were_all_kept a base is s m r k))
     (λ x j h l. ap (λ m. keys_at m j) n.recents_stay)
     (subst (λ m. Ends s m) (sym n.recents_stay) (released_ends_before a base is m before s k r earlier.is_held earlier.is_below)) k
   where
@@ -123,10 +123,10 @@ keeps_narrowed a b base is s m next before window r after earlier w n k =
 
 -- it was the least number
 pub keeps_forgotten : (a b : Archive) (base : Records) (is : List Install) (s : Snapshots) (m next : ℕ) → IsReleased a.snapshots s m → IsNext s m next → ((n : ℕ) → IsHeld s n → m ≤ n) → b.snapshots ≡ s
-    → IsPruned (stays m (needed s)) a.recents m next a.chains b.chains
+    → (WereAllKept s m a.chains → IsPruned (stays m (needed s)) a.recents m next a.chains b.chains)
     → ((n : ℕ) → next < n → keys_at b.recents n ≡ keys_at a.recents n) → ((n : ℕ) → m < n → n ≤ next → keys_at b.recents n ≡ []) → ((n : ℕ) → n ≤ m → keys_at b.recents n ≡ keys_at a.recents n)
     → Keeps a base is → Keeps b base is
 keeps_forgotten a b base is s m next r after least es pruned later gone earlier k =
-    keeps_released a b base is s m m next es r (stay_kept_above a base is s m next r after k) pruned
+    keeps_released a b base is s m m next es r (stay_kept_above a base is s m next r after k) (pruned (were_all_kept a base is s m r k))
     (forgotten s m next a.recents b.recents after least later)
     (released_ends a base is m next s b.recents k r after later gone earlier) k

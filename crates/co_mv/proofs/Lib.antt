@@ -4,6 +4,7 @@ mod Versioning
 mod Needing
 mod Stamping
 mod Newest
+mod Ordering
 mod Chaining
 mod Archiving
 mod Releasing

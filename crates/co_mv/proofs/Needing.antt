@@ -14,6 +14,7 @@ use Rattle.co_state.specs.Table.{Table}
 use Rattle.co_stamps.specs.Stamped.{IsStamp}
 use Rattle.co_mv.specs.Kept.{stamps, pinned_numbers, held, needed, grown, IsHeld, IsNeeded}
 use Rattle.co_mv.specs.Versions.{closed_by, closed, with_closed, is_before, sees, is_gone, is_kept}
+pub use Rattle.co_mv.specs.Ordered.{Each}
 use Rattle.co_mv.proofs.Versioning.{le_true, true_le, true_lt, and_first, and_second, and-false, IsLink, Linked, written_bound}
 pub use Rattle.co_state.proofs.Ties.{first, second, tied, ties-itself}
 use Rattle.co_state.proofs.Ties.{nothing_below}
@@ -141,10 +142,6 @@ not_kept s v n h e k = by v.value (is_gone (needed s) v) refl (sym k ∙ ap (λ 
     by (Some x) g y z = absurd (true≢false (sym (z ∙ ap not (sym y))))
 
 -- ---- lists of versions that are filtered
-abbrev pub Each : (Version → Type 0) → List Version → Type 0
-Each P [] = Unit {0}
-Each P (v ∷ vs) = P v × Each P vs
-
 pub each_link : (is : List Install) (key : List ℕ) (P : Version → Type 0) (end : Option ℕ) (vs : List Version) → Linked is key end vs
     → ((v : Version) (end : Option ℕ) → IsLink is key end v → P v) → Each P vs
 each_link is key P end [] l f = tt

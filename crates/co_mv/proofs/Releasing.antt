@@ -14,11 +14,12 @@ use Rattle.co_mv.specs.declared.snapshots.Snapshots.{Snapshots}
 use Rattle.co_mv.specs.declared.version.Version.{Version}
 use Rattle.co_mv.specs.Chains.{chain_of}
 use Rattle.co_stamps.specs.Stamped.{IsStamp}
-use Rattle.co_mv.specs.Kept.{needed, left, unpinned, IsHeld, IsNeeded, IsNext, IsReleased, IsPruned, Keeps, wrote_at}
+use Rattle.co_mv.specs.Kept.{needed, left, unpinned, IsHeld, IsNeeded, IsNext, IsReleased, IsReadFrom, WereKept, WereAllKept, IsPruned, Keeps, wrote_at}
 use Rattle.co_mv.specs.Recents.{Recents, keys_at, has_key}
 use Rattle.co_mv.specs.Versions.{versions_of, is_before, sees, is_gone, is_kept, is_apart, stays}
 use Rattle.co_mv.proofs.Chaining.{each_one}
 use Rattle.co_mv.proofs.Needing.{tied, some_same, any-needed, needed-any, within-alike, kept_to, kept_fewer, each_link, filter-within, filter-alike}
+use Rattle.co_mv.proofs.Ordering.{ordered_filter, ordered_linked, each_filtered}
 use Rattle.co_mv.proofs.Versioning.{le_true, true_le, lt_true, true_lt, and_first, and_second, IsLink, linked, IsWritten}
 
 -- ---- a number is held no more
@@ -97,6 +98,28 @@ released_case s s' m n r (inr h) = by (r.others_stay n h)
 released_was : (s s' : Snapshots) (m n : ℕ) → IsReleased s s' m → IsNeeded s' n → IsNeeded s n
 released_was s s' m n r (inl e) = inl (e ∙ r.installs_stay)
 released_was s s' m n r (inr h) = inr (r.was n h)
+
+-- what is kept is what was so while the number was held
+pub were_all_kept : (a : Archive) (base : Records) (is : List Install) (s : Snapshots) (m : ℕ) → IsReleased a.snapshots s m → Keeps a base is → WereAllKept s m a.chains
+were_all_kept a base is s m r k key = subst (WereKept s m) (sym (k.chains_are key)) (record {
+  ordered = ordered_filter keep vs (ordered_linked is key None vs (linked base is key));
+  read = each_filtered (IsReadFrom s m) keep vs read;
+})
+  where
+    keep : Version → Bool
+    keep = is_kept (needed a.snapshots)
+
+    vs : List Version
+    vs = versions_of base is key
+
+    by : (v : Version) (n : ℕ) → sees n v ≡ true → IsNeeded s n ⊎ (n ≡ m) → IsReadFrom s m v
+    by v n e (inl h) = inr (n, h, e)
+    by v n e (inr x) = inl (ap (λ j. sees j v) (sym x) ∙ e)
+
+    read : (v : Version) → is_kept (needed a.snapshots) v ≡ true → IsReadFrom s m v
+    read v e =
+        let q = needed-any (λ n. sees n v) a.snapshots (and_first (list_any (λ n. sees n v) (needed a.snapshots)) (not (is_gone (needed a.snapshots) v)) e) in
+        by v q.0 q.2 (released_case a.snapshots s m q.0 r q.1)
 
 -- no install after a number and up to another one wrote the key
 abbrev pub Unwritten : List Install → List ℕ → ℕ → ℕ → Type 0

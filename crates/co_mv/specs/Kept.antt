@@ -10,11 +10,12 @@ use Rattle.co_mv.specs.declared.mv_engine.MvEngine.{MvEngine}
 use Rattle.co_mv.specs.declared.version.Version.{Version}
 use Rattle.co_mv.specs.Chains.{Chains, chain_of}
 use Rattle.co_engine.specs.Undecided.{or_nothing}
+use Rattle.co_mv.specs.Ordered.{Each, IsOrdered}
 use Rattle.co_mv.specs.Reading.{all_noted, laid_within}
 use Rattle.co_mv.specs.Recents.{Recents, keys_at, has_key}
 use Rattle.co_base.specs.Span.{Span, span_has}
 use Rattle.co_base.specs.declared.written.Written.{Written}
-use Rattle.co_mv.specs.Versions.{is_kept, stays, versions_of}
+use Rattle.co_mv.specs.Versions.{sees, is_kept, stays, versions_of}
 use Rattle.co_serial.specs.Records.{Records}
 use Rattle.co_state.specs.declared.engine_state.EngineState.{EngineState}
 use Rattle.co_state.specs.declared.engine_state.Install.{Install}
@@ -95,6 +96,18 @@ pub record IsReleased (old new : Snapshots) (number : ℕ) : Type 0 where
   pub was : (n : ℕ) → IsHeld new n → IsHeld old n
   pub others_stay : (n : ℕ) → IsHeld old n → IsHeld new n ⊎ (n ≡ number)
 
+-- a reader that read a version is still there, or it was the one at a number
+abbrev pub IsReadFrom : Snapshots → ℕ → Version → Type 0
+IsReadFrom s number v = (sees number v ≡ true) ⊎ ((n : ℕ) × IsNeeded s n × (sees n v ≡ true))
+
+-- versions as they were kept while a number was held
+pub record WereKept (s : Snapshots) (number : ℕ) (vs : List Version) : Type 0 where
+  pub ordered : IsOrdered vs
+  pub read : Each (IsReadFrom s number) vs
+
+abbrev pub WereAllKept : Snapshots → ℕ → Chains → Type 0
+WereAllKept s number m = (key : List ℕ) → WereKept s number (chain_of m key)
+
 -- whether the install of this number wrote the key; the newest install stands first in the list
 abbrev pub wrote_at : List Install → ℕ → List ℕ → Bool
 wrote_at [] n key = false
@@ -111,11 +124,11 @@ abbrev pub AreLeft : Recents → ℕ → ℕ → Chains → Chains → Type 0
 AreLeft recents from to old new =
     (key : List ℕ) → ((n : ℕ) → from < n → n ≤ to → has_key (keys_at recents n) key ≡ false) → chain_of new key ≡ chain_of old key
 
--- the archive was pruned of what only a reader at a number read, by the installs of a window, and nothing else of it changed
+-- the archive was pruned of what only a reader at a number read, by the installs of a window, if it was kept while the number was held; nothing else of it changed
 pub record IsNarrowed (number from to : ℕ) (old new : Archive) : Type 0 where
   pub snapshots_stay : new.snapshots ≡ old.snapshots
   pub recents_stay : new.recents ≡ old.recents
-  pub pruned : IsPruned (stays number (needed old.snapshots)) old.recents from to old.chains new.chains
+  pub pruned : WereAllKept old.snapshots number old.chains → IsPruned (stays number (needed old.snapshots)) old.recents from to old.chains new.chains
 
 -- ---- the snapshots after calls
 abbrev pub entered : Snapshots → ℕ → Snapshots

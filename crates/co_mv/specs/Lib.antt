@@ -1,4 +1,5 @@
 pub mod Versions
+pub mod Ordered
 pub mod Kept
 pub mod Chains
 pub mod Recents

@@ -1,8 +1,10 @@
 //! The versions of one key.
-ghost use Rattle.std.specs.Prelude.{◌≡◌, ◌==◌, ◌<◌, [], ◌∷◌, Some, map, reverse, filter, length, slice_get, IfOk, OnOk, option_copied};
+ghost use Rattle.std.specs.Prelude.{◌≡◌, ◌==◌, ◌<◌, ◌≤◌, nat_le, true, false, [], ◌∷◌, Some, map, reverse, filter, length, slice_get, IfOk, OnOk, option_copied};
 ghost use Rattle.std.specs.List.{list_any};
+ghost use Rattle.std.specs.List.Sorted.{IsPartitionedBy, IsPartitionPoint};
 ghost use Rattle.co_mv.specs.Versions.{seen_value, is_kept, stays, base_versions, written_since, with_newest, with_closed, with_write};
-ghost use Rattle.co_mv.specs.Kept.{needed};
+ghost use Rattle.co_mv.specs.Kept.{needed, WereKept};
+ghost use Rattle.co_mv.specs.Ordered.{forgotten_at};
 
 use crate::snapshots::Snapshots;
 use crate::version::Version;
@@ -145,11 +147,40 @@ impl Chain {
         self.lay(version, snapshots)
     }
 
-    /// Forgets the versions that only a reader at this number read, which has gone. Takes no memory.
+    /// Forgets the versions that only a reader at this number read, which has gone. Where they are those that
+    /// were kept before, these are the version that it read, or the one written behind it, which may have taken the
+    /// record away: no other one is looked at. Takes no memory.
     pub fn prune(&mut self, number: u64, snapshots: &Snapshots)
-        ensures { self.new ≡ filter (stays number (needed snapshots.now)) self.old }
+        ensures { WereKept snapshots.now number self.old → self.new ≡ filter (stays number (needed snapshots.now)) self.old }
     {
-        self.oldest_first
-            .retain(|version| snapshots.stays(version, number));
+        let later = count_until(self.oldest_first.as_slice(), number);
+        forget(&mut self.oldest_first, later, number, snapshots);
+        if later > 0 {
+            forget(&mut self.oldest_first, later - 1, number, snapshots);
+        }
+    }
+}
+
+/// How many versions were written by the first so many installs, where the oldest one stands first.
+fn count_until(oldest_first: &[Version], installs: u64) -> usize
+    ensures bound { result ≤ length oldest_first.now }
+    ensures count { IsPartitionedBy (λ v. nat_le v.written installs) oldest_first.now → IsPartitionPoint (λ v. nat_le v.written installs ≡ true) (λ v. nat_le v.written installs ≡ false) oldest_first.now result }
+{
+    oldest_first.partition_point(
+        |version: &Version| -> bool
+            ensures { result ≡ nat_le version.now.written installs }
+        { version.written <= installs },
+    )
+}
+
+/// Forgets the version at a place, if it does not stay once a reader at this number has gone.
+fn forget(versions: &mut Vec<Version>, place: usize, number: u64, snapshots: &Snapshots)
+    ensures { versions.new.items ≡ forgotten_at (stays number (needed snapshots.now)) place versions.old.items }
+{
+    let Some(version) = versions.get(place) else {
+        return;
+    };
+    if !snapshots.stays(version, number) {
+        let _ = versions.remove(place);
     }
 }

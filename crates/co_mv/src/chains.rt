@@ -5,7 +5,7 @@ ghost use Rattle.std.specs.FinMap.{entries};
 ghost use Rattle.co_base.specs.Span.{span_has};
 ghost use Rattle.co_mv.specs.Versions.{is_kept, stays, base_versions, seen_value};
 ghost use Rattle.co_mv.specs.Chains.{chain_in, chain_of, narrowed, settled, pruned, pruned_all, rewritten, rewritten_all, chains_from};
-ghost use Rattle.co_mv.specs.Kept.{needed};
+ghost use Rattle.co_mv.specs.Kept.{needed, WereKept, WereAllKept};
 
 use crate::chain::Chain;
 use crate::snapshots::Snapshots;
@@ -174,7 +174,7 @@ impl Chains {
 
     /// Forgets the versions of a key that only a reader at this number read, which has gone.
     fn narrow(&mut self, key: &Key, number: u64, snapshots: &Snapshots)
-        ensures { self.new ≡ narrowed (stays number (needed snapshots.now)) self.old key.now }
+        ensures { WereKept snapshots.now number (chain_of self.old key.now) → self.new ≡ narrowed (stays number (needed snapshots.now)) self.old key.now }
     {
         let Some(chain) = self.map.get_mut(key) else {
             return;
@@ -194,7 +194,7 @@ impl Chains {
     /// Forgets the versions of a key that only a reader at this number read, which has gone, and the key where
     /// none is left. Takes no memory.
     fn prune(&mut self, key: &Key, number: u64, snapshots: &Snapshots)
-        ensures { self.new ≡ pruned (stays number (needed snapshots.now)) self.old key.now }
+        ensures { WereKept snapshots.now number (chain_of self.old key.now) → self.new ≡ pruned (stays number (needed snapshots.now)) self.old key.now }
     {
         self.narrow(key, number, snapshots);
         self.settle(key);
@@ -202,7 +202,7 @@ impl Chains {
 
     /// Forgets the versions of some keys that only a reader at this number read, which has gone. Takes no memory.
     pub fn prune_all(&mut self, keys: &[Key], number: u64, snapshots: &Snapshots)
-        ensures { self.new ≡ pruned_all (stays number (needed snapshots.now)) self.old keys.now }
+        ensures { WereAllKept snapshots.now number self.old → self.new ≡ pruned_all (stays number (needed snapshots.now)) self.old keys.now }
     {
         for key in keys {
             self.prune(key, number, snapshots);

@@ -1,7 +1,7 @@
 //! Versions and installs that are forgotten, install after install.
 ghost use Rattle.std.specs.Prelude.{◌≡◌, ◌<◌, ◌≤◌, [], ℕ};
 ghost use Rattle.co_mv.specs.Versions.{stays};
-ghost use Rattle.co_mv.specs.Kept.{needed, IsPruned, AreLeft};
+ghost use Rattle.co_mv.specs.Kept.{needed, IsPruned, AreLeft, WereAllKept};
 ghost use Rattle.co_mv.specs.Recents.{keys_at};
 
 use crate::chains::Chains;
@@ -18,8 +18,8 @@ pub fn prune_window(
     to: u64,
     snapshots: &Snapshots,
 )
-    ensures pruned { IsPruned (stays number (needed snapshots.now)) recents.now from to chains.old chains.new }
-    ensures others { AreLeft recents.now from to chains.old chains.new }
+    ensures pruned { WereAllKept snapshots.now number chains.old → IsPruned (stays number (needed snapshots.now)) recents.now from to chains.old chains.new }
+    ensures others { WereAllKept snapshots.now number chains.old → AreLeft recents.now from to chains.old chains.new }
 {
     let mut install = from;
     while install < to {

@@ -1,0 +1,24 @@
+-- The versions of a key in the order of their installs.
+use Rattle.std.specs.Prelude.{ℕ, zero, suc, Bool, true, ◌≡◌, ◌<◌, ◌≤◌, List, [], ◌∷◌}
+use Rattle.co_mv.specs.declared.version.Version.{Version}
+use Rattle.co_mv.specs.Versions.{is_before, with_newest}
+
+abbrev pub Each : (Version → Type 0) → List Version → Type 0
+Each P [] = Unit {0}
+Each P (v ∷ vs) = P v × Each P vs
+
+-- the older one was written first, and was overwritten by the time that the newer one was written
+pub record IsOlder (newer older : Version) : Type 0 where
+  pub begun : older.written ≤ newer.written
+  pub ended : (n : ℕ) → is_before n older.overwritten ≡ true → n < newer.written
+
+-- the newest one stands first
+abbrev pub IsOrdered : List Version → Type 0
+IsOrdered [] = Unit {0}
+IsOrdered (v ∷ vs) = Each (IsOlder v) vs × IsOrdered vs
+
+-- the version at a place goes, if it is not kept
+abbrev pub forgotten_at : (Version → Bool) → ℕ → List Version → List Version
+forgotten_at keep place [] = []
+forgotten_at keep zero (v ∷ vs) = with_newest keep v vs
+forgotten_at keep (suc place) (v ∷ vs) = v ∷ forgotten_at keep place vs
