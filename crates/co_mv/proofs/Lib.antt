@@ -3,8 +3,8 @@ mod Outcomes
 mod Versioning
 mod Needing
 mod Stamping
-mod Newest
 mod Ordering
+mod Seeing
 mod Chaining
 mod Archiving
 mod Releasing

@@ -1,18 +1,18 @@
 -- Versions in order: those that are read at a number stand together.
-use Rattle.std.proofs.Common.{◌≡◌, ℕ, zero, suc, ◌+◌, ◌-◌, ◌<◌, ◌≤◌, Bool, true, false, cond, not, ◌&&◌, ◌||◌, List, [], ◌∷◌, ◌++◌, filter, reverse, length, get_or, remove, is_some, Option, None, Some, inl, inr, refl, sym, ap, ◌∙◌, subst, true≢false, arith}
-use Rattle.std.specs.Prelude.{nat_lt, nat_le}
-use Rattle.std.specs.List.Sorted.{IsPartitionedBy, IsPartitionPoint}
+use Rattle.std.proofs.Common.{◌≡◌, ℕ, zero, suc, ◌-◌, ◌<◌, ◌≤◌, Bool, true, false, cond, not, ◌&&◌, ◌||◌, List, [], ◌∷◌, ◌++◌, filter, reverse, length, get_or, remove, is_some, Option, None, Some, inl, inr, refl, sym, ap, ◌∙◌, subst, arith}
+use Rattle.std.specs.Prelude.{nat_le}
+use Rattle.std.specs.List.Sorted.{IsPartitionedBy}
 use Rattle.std.proofs.lemmas.Bool.Decides.{nat_tests}
-use Rattle.std.proofs.lemmas.List.{reverse-append, reverse-reverse}
+use Rattle.std.proofs.lemmas.List.{append-nil, reverse-append, reverse-reverse}
+use Rattle.std.proofs.lemmas.List.Elements.{filter-append}
 use Rattle.co_state.specs.declared.engine_state.Install.{Install}
 use Rattle.co_mv.specs.declared.snapshots.Snapshots.{Snapshots}
 use Rattle.co_mv.specs.declared.version.Version.{Version}
-use Rattle.co_mv.specs.Kept.{needed, IsNeeded, IsReadFrom, WereKept}
-use Rattle.co_mv.specs.Ordered.{Each, IsOlder, IsOrdered, forgotten_at}
+use Rattle.co_mv.specs.Kept.{needed, IsReadFrom, WereKept}
+use Rattle.co_mv.specs.Ordered.{Each, IsOlder, IsOrdered, IsCountUntil, forgotten_at}
 use Rattle.co_mv.specs.Versions.{with_newest, is_before, sees, is_kept, is_apart, stays}
 use Rattle.co_mv.proofs.Needing.{kept_for_all}
-use Rattle.co_mv.proofs.Newest.{filter-reverse}
-use Rattle.co_mv.proofs.Versioning.{le_true, true_le, lt_true, true_lt, lt_false, and_first, and_second, Linked}
+use Rattle.co_mv.proofs.Versioning.{le_true, true_le, true_lt, and_first, and_second, Linked}
 
 -- ---- each of some versions
 each_more : (P : Version → Type 0) (vs : List Version) (v : Version) → Each P vs → P v → Each P (vs ++ v ∷ [])
@@ -44,6 +44,15 @@ each_filtered P keep (v ∷ vs) f = by (each_filtered P keep vs f) (keep v) refl
     by : Each P (filter keep vs) → (b : Bool) → keep v ≡ b → Each P (cond b (v ∷ filter keep vs) (filter keep vs))
     by rest true e = (f v e, rest)
     by rest false e = rest
+
+pub filter-reverse : (keep : Version → Bool) (vs : List Version) → filter keep (reverse vs) ≡ reverse (filter keep vs)
+filter-reverse keep [] = refl
+filter-reverse keep (v ∷ vs) =
+    ap (filter keep) (reverse-append (v ∷ []) vs) ∙ filter-append keep (reverse vs) (v ∷ []) ∙ ap (λ us. us ++ filter keep (v ∷ [])) (filter-reverse keep vs) ∙ by (keep v)
+  where
+    by : (b : Bool) → reverse (filter keep vs) ++ cond b (v ∷ []) [] ≡ reverse (cond b (v ∷ filter keep vs) (filter keep vs))
+    by true = sym (reverse-append (v ∷ []) (filter keep vs))
+    by false = append-nil (reverse (filter keep vs))
 
 all_kept : (keep : Version → Bool) (vs : List Version) → Each (λ v. keep v ≡ true) vs → filter keep vs ≡ vs
 all_kept keep [] h = refl
@@ -209,12 +218,10 @@ pub first_at : (keep : Version → Bool) (place : ℕ) (vs : List Version) → p
 first_at keep zero vs l = refl
 first_at keep (suc place) vs l = absurd (omega (arith, l))
 
-pub pruned_around : (s : Snapshots) (n : ℕ) (oldest_first chain : List Version) (place : ℕ) → reverse oldest_first ≡ chain → place ≤ length oldest_first
-    → (IsPartitionedBy (λ v. nat_le v.written n) oldest_first → IsPartitionPoint (λ v. nat_le v.written n ≡ true) (λ v. nat_le v.written n ≡ false) oldest_first place)
-    → WereKept s n chain → reverse (forgotten_both (stays n (needed s)) place oldest_first) ≡ filter (stays n (needed s)) chain
-pruned_around s n oldest_first chain place view bound point were =
+pub pruned_around : (s : Snapshots) (n : ℕ) (slice oldest_first chain : List Version) (place : ℕ) → slice ≡ oldest_first → reverse oldest_first ≡ chain → place ≤ length slice → IsCountUntil n slice place → WereKept s n chain → reverse (forgotten_both (stays n (needed s)) place oldest_first) ≡ filter (stays n (needed s)) chain
+pruned_around s n slice oldest_first chain place same view bound count were =
     let back : reverse chain ≡ oldest_first = ap reverse (sym view) ∙ reverse-reverse oldest_first in
     let rising = subst IsRising back (rising_reverse chain were.ordered) in
     let read = subst (Each (IsReadFrom s n)) back (each_reverse (IsReadFrom s n) chain were.read) in
-    let at = point (parted n oldest_first rising) in
-    ap reverse (forgotten_around s n oldest_first place rising read bound at.0 at.1) ∙ sym (filter-reverse (stays n (needed s)) oldest_first) ∙ ap (filter (stays n (needed s))) view
+    let at = subst (λ (vs : List Version). IsCountUntil n vs place) same count (parted n oldest_first rising) in
+    ap reverse (forgotten_around s n oldest_first place rising read (subst (λ (vs : List Version). place ≤ length vs) same bound) at.0 at.1) ∙ sym (filter-reverse (stays n (needed s)) oldest_first) ∙ ap (filter (stays n (needed s))) view

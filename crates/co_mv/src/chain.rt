@@ -1,10 +1,8 @@
 //! The versions of one key.
-ghost use Rattle.std.specs.Prelude.{◌≡◌, ◌==◌, ◌<◌, ◌≤◌, nat_le, true, false, [], ◌∷◌, Some, map, reverse, filter, length, slice_get, IfOk, OnOk, option_copied};
-ghost use Rattle.std.specs.List.{list_any};
-ghost use Rattle.std.specs.List.Sorted.{IsPartitionedBy, IsPartitionPoint};
+ghost use Rattle.std.specs.Prelude.{◌≡◌, ◌==◌, ◌<◌, ◌≤◌, nat_le, [], ◌∷◌, Some, map, reverse, filter, length, slice_get, IfOk, OnOk, option_copied};
 ghost use Rattle.co_mv.specs.Versions.{seen_value, is_kept, stays, base_versions, written_since, with_newest, with_closed, with_write};
 ghost use Rattle.co_mv.specs.Kept.{needed, WereKept};
-ghost use Rattle.co_mv.specs.Ordered.{forgotten_at};
+ghost use Rattle.co_mv.specs.Ordered.{IsOrdered, IsCountUntil, forgotten_at};
 
 use crate::snapshots::Snapshots;
 use crate::version::Version;
@@ -72,38 +70,31 @@ impl Chain {
         self.oldest_first[place].value.as_ref()
     }
 
-    /// The version at a place, counted from the newest one at place 0.
-    fn at(&self, place: usize) -> &Version
-        requires { place < length self.now }
-        ensures { slice_get self.now place ≡ Some result.now }
-    {
-        &self.oldest_first[self.oldest_first.len() - 1 - place]
-    }
-
-    /// The value of the key after the first so many installs.
+    /// The value of the key after the first so many installs, where the versions are in order.
     pub fn value_at(&self, installs: u64) -> Option<&Value>
-        ensures { option_copied result ≡ seen_value installs self.now }
+        ensures { IsOrdered self.now → option_copied result ≡ seen_value installs self.now }
     {
-        for place in 0..self.len() {
-            let version = self.at(place);
-            if version.is_seen_at(installs) {
-                return version.value.as_ref();
-            }
+        let later = count_until(self.oldest_first.as_slice(), installs);
+        if later == 0 {
+            return None;
         }
-        None
+        let version = &self.oldest_first[later - 1];
+        if version.is_seen_at(installs) {
+            version.value.as_ref()
+        } else {
+            None
+        }
     }
 
-    /// Whether an install after the first so many wrote the key.
+    /// Whether an install after the first so many wrote the key. Where the versions are in order, the newest one
+    /// tells.
     pub fn is_written_since(&self, installs: u64) -> bool
-        ensures { result ≡ written_since installs self.now }
+        ensures { IsOrdered self.now → result ≡ written_since installs self.now }
     {
-        for place in 0..self.len() {
-            let version = self.at(place);
-            if installs < version.written {
-                return true;
-            }
+        match self.oldest_first.last() {
+            Some(newest) => installs < newest.written,
+            None => false,
         }
-        false
     }
 
     /// Lays a version over the others, if a reader reads it.
@@ -164,7 +155,7 @@ impl Chain {
 /// How many versions were written by the first so many installs, where the oldest one stands first.
 fn count_until(oldest_first: &[Version], installs: u64) -> usize
     ensures bound { result ≤ length oldest_first.now }
-    ensures count { IsPartitionedBy (λ v. nat_le v.written installs) oldest_first.now → IsPartitionPoint (λ v. nat_le v.written installs ≡ true) (λ v. nat_le v.written installs ≡ false) oldest_first.now result }
+    ensures count { IsCountUntil installs oldest_first.now result }
 {
     oldest_first.partition_point(
         |version: &Version| -> bool

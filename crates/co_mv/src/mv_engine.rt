@@ -1,10 +1,11 @@
 //! The engine.
 ghost use Rattle.std.specs.Prelude.{◌≡◌, ◌<◌, length, map, reverse, slice_get, Some, IsTrue, IfOk, OnOk, option_copied};
-ghost use Rattle.std.specs.FinMap.{get};
+ghost use Rattle.std.specs.FinMap.{get, entries};
 ghost use Rattle.co_base.specs.declared.head.Kind.TheVariants.{Mv};
 ghost use Rattle.co_engine.specs.Calls.{may_operate, seen_of};
 ghost use Rattle.co_mv.specs.Chains.{chain_of};
 ghost use Rattle.co_mv.specs.Kept.{StandsFor, stamp_of, pins_of, own_writes, seen_within, visible_within};
+ghost use Rattle.co_mv.specs.Ordered.{IsOrdered, AreOrdered};
 ghost use Rattle.co_mv.specs.Versions.{kept_versions, seen_value};
 ghost use Rattle.co_serial.specs.Records.{Records, all_rows, with_changes};
 ghost use Rattle.co_state.specs.declared.engine_state.EngineState.{EngineState};
@@ -62,7 +63,7 @@ impl MvEngine {
 
     /// The value of a key that the next operation of a transaction sees. Takes no memory.
     fn value(&self, t: Txn, key: &Key) -> Option<&Value>
-        ensures { (past : Records) → get past key.now ≡ seen_value (stamp_of self.now.archive.snapshots t) (chain_of self.now.archive.chains key.now) → option_copied result ≡ get (with_changes past (own_writes self.now t)) key.now }
+        ensures { (past : Records) → IsOrdered (chain_of self.now.archive.chains key.now) → get past key.now ≡ seen_value (stamp_of self.now.archive.snapshots t) (chain_of self.now.archive.chains key.now) → option_copied result ≡ get (with_changes past (own_writes self.now t)) key.now }
     {
         let stamp = self.archive.snapshots.stamp_of(t);
         let found = seen_value(&self.archive.chains, key, stamp);
@@ -71,7 +72,7 @@ impl MvEngine {
 
     /// The records of a range at a number of installs.
     fn rows_at(&self, alloc: Global, range: &Range, installs: u64) -> Result<Rows, AllocError>
-        ensures { IfOk result (λ rows. rows ≡ all_rows (seen_within self.now.archive.chains range.now installs)) }
+        ensures { AreOrdered (entries self.now.archive.chains) → IfOk result (λ rows. rows ≡ all_rows (seen_within self.now.archive.chains range.now installs)) }
     {
         let records = records_within(alloc, &self.archive.chains, range, installs)?;
         Ok(records.into_rows())
@@ -79,7 +80,7 @@ impl MvEngine {
 
     /// The records of a range that the next operation of a transaction sees.
     fn rows(&self, alloc: Global, t: Txn, range: &Range) -> Result<Rows, AllocError>
-        ensures { IfOk result (λ rows. rows ≡ all_rows (visible_within self.now t range.now)) }
+        ensures { AreOrdered (entries self.now.archive.chains) → IfOk result (λ rows. rows ≡ all_rows (visible_within self.now t range.now)) }
     {
         let stamp = self.archive.snapshots.stamp_of(t);
         let mut records = records_within(alloc, &self.archive.chains, range, stamp)?;

@@ -4,6 +4,7 @@ ghost use Rattle.std.specs.FinMap as map;
 ghost use Rattle.std.specs.FinMap.{entries};
 ghost use Rattle.co_base.specs.Span.{span_has};
 ghost use Rattle.co_mv.specs.Chains.{chain_of};
+ghost use Rattle.co_mv.specs.Ordered.{IsOrdered, AreOrdered};
 ghost use Rattle.co_mv.specs.Reading.{noted, all_noted, changed_within, laid_within};
 ghost use Rattle.co_mv.specs.Versions.{seen_value};
 
@@ -15,7 +16,7 @@ use std::alloc::{AllocError, Global};
 
 /// The value of a key at a number of installs. Takes no memory.
 pub fn seen_value<'a>(chains: &'a Chains, key: &Key, installs: u64) -> Option<&'a Value>
-    ensures { option_copied result ≡ seen_value installs (chain_of chains.now key.now) }
+    ensures { IsOrdered (chain_of chains.now key.now) → option_copied result ≡ seen_value installs (chain_of chains.now key.now) }
 {
     match chains.get(key) {
         Some(chain) => chain.value_at(installs),
@@ -25,7 +26,7 @@ pub fn seen_value<'a>(chains: &'a Chains, key: &Key, installs: u64) -> Option<&'
 
 /// Notes the record that a key has at a number of installs, if it has one.
 fn note(records: &mut RowList, key: &Key, chain: &Chain, installs: u64) -> Result<(), AllocError>
-    ensures { OnOk result (records.new ≡ noted records.old key.now (seen_value installs chain.now)) }
+    ensures { IsOrdered chain.now → OnOk result (records.new ≡ noted records.old key.now (seen_value installs chain.now)) }
 {
     match chain.value_at(installs) {
         Some(value) => records.set(key.copy()?, value.copy()?),
@@ -35,7 +36,7 @@ fn note(records: &mut RowList, key: &Key, chain: &Chain, installs: u64) -> Resul
 
 /// Every record at a number of installs.
 pub fn all_records(alloc: Global, chains: &Chains, installs: u64) -> Result<RowList, AllocError>
-    ensures { IfOk result (λ records. records ≡ all_noted installs map.empty (entries chains.now)) }
+    ensures { AreOrdered (entries chains.now) → IfOk result (λ records. records ≡ all_noted installs map.empty (entries chains.now)) }
 {
     let mut records = RowList::new(alloc);
     for (key, chain) in chains.iter() {
@@ -51,7 +52,7 @@ pub fn records_within(
     range: &Range,
     installs: u64,
 ) -> Result<RowList, AllocError>
-    ensures { IfOk result (λ records. records ≡ all_noted installs map.empty (filter (λ e. span_has range.now e.0) (entries chains.now))) }
+    ensures { AreOrdered (entries chains.now) → IfOk result (λ records. records ≡ all_noted installs map.empty (filter (λ e. span_has range.now e.0) (entries chains.now))) }
 {
     let mut records = RowList::new(alloc);
     for (key, chain) in chains.within(range) {

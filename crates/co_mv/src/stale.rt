@@ -2,6 +2,7 @@
 ghost use Rattle.std.specs.Prelude.{◌≡◌, filter, option_copied};
 ghost use Rattle.std.specs.FinMap.{entries};
 ghost use Rattle.co_base.specs.Span.{span_has};
+ghost use Rattle.co_mv.specs.Ordered.{AreOrdered};
 ghost use Rattle.co_mv.specs.Overwritten.{written_keys, written_within};
 ghost use Rattle.co_state.specs.Keys.{least_key};
 ghost use Rattle.co_state.specs.Search.{least_with};
@@ -17,7 +18,7 @@ fn least_within<'a>(
     range: &Range,
     installs: u64,
 ) -> Option<&'a Key>
-    ensures { option_copied result ≡ least_with (option_copied found.entry) (written_keys installs (filter (λ e. span_has range.now e.0) (entries chains.now))) }
+    ensures { AreOrdered (entries chains.now) → option_copied result ≡ least_with (option_copied found.entry) (written_keys installs (filter (λ e. span_has range.now e.0) (entries chains.now))) }
 {
     let mut least = found;
     for (key, chain) in chains.within(range) {
@@ -30,7 +31,7 @@ fn least_within<'a>(
 
 /// The least key that was written in some of the ranges after the first so many installs.
 pub fn least_written<'a>(chains: &'a Chains, ranges: &[Range], installs: u64) -> Option<&'a Key>
-    ensures { option_copied result ≡ least_key (written_within installs (entries chains.now) ranges.now) }
+    ensures { AreOrdered (entries chains.now) → option_copied result ≡ least_key (written_within installs (entries chains.now) ranges.now) }
 {
     let mut least = None;
     for range in ranges {

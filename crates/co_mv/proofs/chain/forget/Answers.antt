@@ -1,8 +1,7 @@
-use Rattle.std.proofs.Common.{nat_lt, nat_le, length, false, true, ◌≤◌, ◌<◌, ℕ, Bool, ◌≡◌, sym, ap, ◌∙◌, arith, rules, get_or, List}
+use Rattle.std.proofs.Common.{length, ◌≤◌, ◌<◌, ap, ◌∙◌, arith, get_or, List}
 use Rattle.std.proofs.lemmas.Bool.Decides.{nat_tests}
 use Rattle.co_mv.specs.declared.version.Version.{Version}
 use Rattle.co_mv.specs.Kept.{needed}
-use Rattle.co_mv.specs.Ordered.{forgotten_at}
 use Rattle.co_mv.specs.Versions.{stays}
 use Rattle.co_mv.proofs.Ordering.{none_at, kept_at, gone_at}
 use Rattle.co_mv.proofs.chain.forget.Goals as goal

@@ -1,8 +1,9 @@
-use Rattle.co_mv.proofs.Newest.{written_here, unwritten_here}
+use Rattle.std.proofs.Common.{ap, ◌∙◌, ◌-◌, length, slice_get, List}
+use Rattle.co_mv.specs.declared.version.Version.{Version}
+use Rattle.co_mv.proofs.Seeing.{last_tells}
 use Rattle.co_mv.proofs.chain.Chain.is_written_since.Goals as goal
 
-pub loop-place-preserved : goal.loop-place-preserved
-loop-place-preserved c = unwritten_here c.args.installs c.args.self.now c.loop-place.place c.at-version.result.now c.at-version.ensures c.loop-place.invariant c.if-installs-version.false
-
-pub returns-then-installs-version : goal.returns-then-installs-version
-returns-then-installs-version c = written_here c.args.installs c.args.self.now c.loop-place.place c.at-version.result.now c.at-version.ensures c.loop-place.invariant c.if-installs-version.true
+pub returns-in-Some : goal.returns-in-Some
+returns-in-Some c = λ ordered.
+    last_tells c.args.installs c.self.inside.oldest_first.items c.args.self.now c.in-Some.newest.now c.self.view_is
+    (c.in-Some.ensures.value ∙ ap (λ (vs : List Version). slice_get vs (length vs - 1)) c.deref.ensures.value) ordered

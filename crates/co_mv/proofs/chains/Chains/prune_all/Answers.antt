@@ -16,6 +16,7 @@ loop-key-preserved c = λ were.
     let key = c.key-item.result in
     let before = c.loop-key.invariant were in
     let is = c.prune.ensures (before.0 key) in
-    let next = drop_more keys c.loop-key.key-index key c.loop-key-test.true ∙ ap (λ k. k ∷ drop (c.loop-key.key-index + 1) keys) (sym c.key-item.is) in
-    ( subst (λ (m : Chains). WereAllKept s n m) (sym is) (were_pruned s n keep m key before.0)
-    , ap (λ (m : Chains). pruned_all keep m (drop (c.loop-key.key-index + 1) keys)) is ∙ sym (ap (pruned_all keep m) next) ∙ before.1 )
+    let next = drop_more keys c.loop-key.key-index key c.loop-key-test.true ∙ ap (λ k. k ∷ drop (c.loop-key.key-index + 1) keys) (sym c.key-item.is) in (
+      subst (λ (m : Chains). WereAllKept s n m) (sym is) (were_pruned s n keep m key before.0),
+      ap (λ (m : Chains). pruned_all keep m (drop (c.loop-key.key-index + 1) keys)) is ∙ sym (ap (pruned_all keep m) next) ∙ before.1,
+    )
