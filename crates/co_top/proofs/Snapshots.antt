@@ -1,5 +1,5 @@
 -- What members had installed behind a line are snapshots of the run to its end.
-use Rattle.std.proofs.Common.{◌≡◌, inl, ℕ, zero, suc, List, [], ◌++◌, map, take, drop, refl, sym, ap, ◌∙◌, subst}
+use Rattle.std.proofs.Common.{◌≡◌, inl, ℕ, zero, suc, List, [], ◌++◌, take, drop, refl, sym, ap, ◌∙◌, subst}
 use Rattle.std.proofs.lemmas.List.{take-append-drop, map-append}
 use Rattle.co_law.proofs.GoingOn.{lines_true}
 use Rattle.co_law_runs.proofs.Agreement.{run_more}

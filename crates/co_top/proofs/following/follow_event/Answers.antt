@@ -1,4 +1,4 @@
-use Rattle.std.proofs.Common.{None, Result, Err, IfErr, sym, subst}
+use Rattle.std.proofs.Common.{None, Result, IfErr, sym, subst}
 use Rattle.co_plain.specs.Step.{step_line}
 use Rattle.co_trial.specs.Calm.{calm_seen}
 use Rattle.co_top.specs.Following.{IsOfEvent}

@@ -1,4 +1,4 @@
-use Rattle.std.proofs.Common.{None, Option, Ok, Err, List, [], ℕ, refl, ap, subst}
+use Rattle.std.proofs.Common.{Option, Ok, Err, List, [], ℕ, refl, ap, subst}
 use Rattle.co_plain.specs.Opening.{opened}
 use Rattle.co_plain.specs.Runs.{run, lines}
 use Rattle.co_trial.specs.Calm.{calm_seen}

@@ -1,4 +1,4 @@
-use Rattle.std.proofs.Common.{◌≡◌, ◌∙◌, ℕ, suc, ◌-◌, List, [], ◌∷◌, ◌++◌, drop, take, length, refl, sym, ap, subst, arith}
+use Rattle.std.proofs.Common.{◌≡◌, ◌∙◌, ℕ, suc, ◌-◌, List, [], ◌∷◌, ◌++◌, drop, take, length, refl, ap, subst, arith}
 use Rattle.std.proofs.Math.Seq.{take-length}
 use Rattle.co_schedule.specs.Words.{behind, spaced}
 use Rattle.co_top.specs.Looking.{looked_words, looked_text}
