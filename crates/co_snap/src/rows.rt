@@ -56,7 +56,7 @@ const ROWS: [(&[u8], u8, u32, &str); 11] = [
 fn word_of(seen: &Result<Looked, LookFault>) -> &str {
     match seen {
         Ok(Looked::Rows(rows)) => match rows.as_slice().first() {
-            Some(row) => str::from_utf8(row.value.as_bytes()).unwrap_or("no text"),
+            Some(row) => str::from_utf8(row.value.text()).unwrap_or("no text"),
             None => "no rows",
         },
         Ok(Looked::NoMember) => "no member",
