@@ -1,5 +1,5 @@
 -- A run over a directory in memory, and one that goes on over what it left.
-use Rattle.std.proofs.Common.{ℕ, Bool, true, false, ◌≡◌, List, [], ◌∷◌, length, Option, inl, refl, subst}
+use Rattle.std.proofs.Common.{ℕ, Bool, true, false, ◌≡◌, List, [], ◌∷◌, codes, length, Some, Option, inl, refl, subst}
 use Rattle.std.specs.List.{AllByRecursion}
 use Rattle.co_base.specs.declared.node.Node.{Node}
 use Rattle.co_outside.specs.declared.home_memory.HomeMemory.{HomeMemory}
@@ -12,7 +12,10 @@ use Rattle.co_top.specs.Headline.{CommitsTogether, IsWholeRun}
 use Rattle.co_top.specs.Ran.{Ran, IsRunEnd}
 use Rattle.co_top.specs.declared.status.Status.{Status}
 use Rattle.co_top.specs.declared.status.Status.TheVariants as status
-use Rattle.co_two_runs.specs.TwoRuns.{IsWell, HasRunWell, HaveRunWell}
+use Rattle.co_top.specs.Running.{RunsAs}
+use Rattle.co_top.specs.Views.{SourceView, SinkView, source_seen, sink_seen}
+use Rattle.co_two_runs.specs.declared.runs.TwoRuns.{TwoRuns}
+use Rattle.co_two_runs.specs.TwoRuns.{IsWell, HasRunWell, HasEnded, HaveEnded}
 
 -- a directory in memory tells the files of every node
 all_told : (home : HomeMemory) (nodes : List Node) → AllByRecursion (IsTold (memory_file home)) nodes
@@ -45,15 +48,29 @@ done_run resume input held left new_told old new ended is end whole = by (subst 
     by (IsRunEnd.Failed done files fault) = absurd fault
     by (IsRunEnd.Wanted done files want) = absurd (cc)
 
+-- a run over a source and a sink that have not failed
+pub ended_run : (resume : Bool) (input : List ℕ) (left held : Option (List ℕ)) (source_faults out_faults : ℕ) (source : SourceView) (out : SinkView) (old new : HomeMemory) (ended : Status)
+    → left ≡ Some input → source_faults ≡ 0 → held ≡ Some [] → out_faults ≡ 0
+    → RunsAs memory_seen resume (codes "logs") (source_seen left source_faults) source (sink_seen held out_faults) out old new ended
+    → (ended ≡ status.Done → HasRunWell resume input (memory_file old) (memory_file new)) → HasEnded resume input old new ended
+ended_run resume input left held source_faults out_faults source out old new ended l n h m runs done = record {
+  source = source;
+  out = out;
+  runs = subst (λ (v : SourceView × SinkView). RunsAs memory_seen resume (codes "logs") v.0 source v.1 out old new ended) (λ i. (source_seen (l i) (n i), sink_seen (h i) (m i))) runs;
+  done = done;
+}
+
 -- what the first one left is sound for the second one
-pub twice : (first second : List ℕ) (old : Spot → Option File) (between new : HomeMemory) → HasRunWell false first old (memory_file between) → HasRunWell true second (memory_file between) (memory_file new)
-    → HaveRunWell first second old (memory_file new)
-twice first second old between new one two =
-    let begun = one.well (inl refl) in
-    record {
-      between = memory_file between;
-      one = one;
-      two = two;
-      first_is_well = begun;
-      second_is_well = λ kinds coords. two.well (begun.together.goes_on (told between (length one.ran.head.kinds) one.ran.head.coords) second two.ran kinds coords);
-    }
+pub twice : (first second : List ℕ) (old between new : HomeMemory) (ended : TwoRuns) → HasEnded false first old between ended.first → HasEnded true second between new ended.second → HaveEnded first second old new ended
+twice first second old between new ended one two = record {
+  between = between;
+  one = one;
+  two = two;
+  first_is_well = first_well;
+  second_is_well = λ first_done second_done kinds coords.
+      let ran = one.done first_done in
+      (two.done second_done).well ((first_well first_done).together.goes_on (told between (length ran.ran.head.kinds) ran.ran.head.coords) second (two.done second_done).ran kinds coords);
+}
+  where
+    first_well : (done : ended.first ≡ status.Done) → IsWell (one.done done).ran (memory_file between)
+    first_well done = (one.done done).well (inl refl)

@@ -1,9 +1,7 @@
 //! The two runs.
 ghost use Rattle.std.specs.Prelude.{◌≡◌, Bool, true, false, codes, IfOk};
-ghost use Rattle.co_outside.specs.HomeMemory.{memory_file};
 ghost use Rattle.co_top.specs.Command.{AsksRun, asked_by};
-ghost use Rattle.co_top.specs.declared.status.Status.TheVariants as status;
-ghost use Rattle.co_two_runs.specs.TwoRuns.{HasRunWell, HaveRunWell};
+ghost use Rattle.co_two_runs.specs.TwoRuns.{HasEnded, HaveEnded};
 
 use co_outside::{HomeMemory, SinkMemory, SourceMemory};
 use co_top::{Status, run};
@@ -41,7 +39,7 @@ fn words_resumed(alloc: Global) -> Result<Vec<String>, AllocError>
 
 /// Runs a command of these words over a schedule and a directory in memory, with a sink and a sink of notes of its own.
 fn run_over(alloc: Global, words: &[String], schedule: Vec<u8>, home: &mut HomeMemory) -> Status
-    ensures { (resume : Bool) → asked_by words.now ≡ AsksRun (codes "logs") resume → result ≡ status.Done → HasRunWell resume schedule.items (memory_file home.old) (memory_file home.new) }
+    ensures { (resume : Bool) → asked_by words.now ≡ AsksRun (codes "logs") resume → HasEnded resume schedule.items home.old home.new result }
 {
     let mut source = SourceMemory::new(schedule, Vec::new(alloc));
     let mut out = SinkMemory::new(alloc, Vec::new(alloc));
@@ -49,14 +47,15 @@ fn run_over(alloc: Global, words: &[String], schedule: Vec<u8>, home: &mut HomeM
     run(alloc, words, &mut source, &mut out, &mut notes, home)
 }
 
-/// Runs a schedule over fresh logs in a directory in memory, and another one over what it left there.
+/// Runs a schedule over fresh logs in a directory in memory, and another one over what it left there. Each status is that of the command `run`; the
+/// error is want of memory, before either.
 pub fn run_twice(
     alloc: Global,
     first: Vec<u8>,
     second: Vec<u8>,
     home: &mut HomeMemory,
 ) -> Result<TwoRuns, AllocError>
-    ensures { IfOk result (λ runs. runs.first ≡ status.Done → runs.second ≡ status.Done → HaveRunWell first.items second.items (memory_file home.old) (memory_file home.new)) }
+    ensures { IfOk result (HaveEnded first.items second.items home.old home.new) }
 {
     let afresh = words_afresh(alloc)?;
     let resumed = words_resumed(alloc)?;
